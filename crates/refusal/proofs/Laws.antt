@@ -1,0 +1,64 @@
+-- A number is the number of one refusal only, and what a row of tests answers.
+-- Assumes nothing.
+use mathlib.Core.Path.{_≡_, refl, sym, ap, _∙_}
+use mathlib.Core.List.{List, [], _∷_}
+use mathlib.Core.Bool.{Bool, true, false}
+use Prim.Native.Nat.{ℕ, zero, suc}
+use native.Mathlib.Omega.{arith}
+use Rattle.refusal.specs.House.{houseNumber, Answer, house, gives, asks}
+use Rattle.refusal.specs.declared.Refusal.{Refusal}
+use Rattle.refusal.specs.declared.Refusal.the-variants.{StoreLength, OutputLength, SessionClosed, MessageShort, NoSessionInit, SameIdentity, UnitLength, MacDiffers, UnitContents, DataLength, NoKey, StoreUnsound, KeyLength}
+
+-- the element at a place of a list, the first being 1; the last past its end
+at : Refusal → List Refusal → ℕ → Refusal
+at h [] n = h
+at h (g ∷ gs) zero = h
+at h (g ∷ gs) (suc n) = at g gs n
+
+named : ℕ → Refusal
+named =
+    at KeyLength
+    (StoreLength ∷ OutputLength ∷ SessionClosed ∷ MessageShort ∷ NoSessionInit ∷ SameIdentity ∷ UnitLength ∷ MacDiffers ∷ UnitContents ∷ DataLength ∷ NoKey ∷ StoreUnsound ∷ KeyLength ∷ [])
+
+back : (h : Refusal) → named (houseNumber h) ≡ h
+unfolding named at
+back StoreLength = refl
+back OutputLength = refl
+back SessionClosed = refl
+back MessageShort = refl
+back NoSessionInit = refl
+back SameIdentity = refl
+back UnitLength = refl
+back MacDiffers = refl
+back UnitContents = refl
+back DataLength = refl
+back NoKey = refl
+back StoreUnsound = refl
+back KeyLength = refl
+
+pub one-number : (g h : Refusal) → houseNumber g ≡ houseNumber h → g ≡ h
+one-number g h e = sym (back g) ∙ ap named e ∙ back h
+
+-- ---- tests in a row
+
+pub asks-false : (b : Bool) (n : ℕ) (a : Answer) → b ≡ false → house n ≡ asks b n a
+asks-false b n a e = rw e
+
+pub asks-true : (b : Bool) (n : ℕ) {a c : Answer} → b ≡ true → c ≡ a → c ≡ asks b n a
+asks-true b n e f = rw e f
+
+-- what gives a number has passed the test
+pub asks-gives : (b : Bool) (n : ℕ) (a : Answer) (m : ℕ) → asks b n a ≡ gives m → (b ≡ true) × (a ≡ gives m)
+asks-gives true n a m e = (refl, e)
+asks-gives false n a m e = let z : _≡_ {A = ℕ} 0 1 = cc in absurd (omega arith)
+
+-- ---- an answer has one number
+
+pub house-number : (m n : ℕ) → house m ≡ house n → m ≡ n
+house-number m n e = cc
+
+pub gives-number : (m n : ℕ) → gives m ≡ gives n → m ≡ n
+gives-number m n e = cc
+
+pub not-both : {A : Type 0} (m n : ℕ) → house m ≡ gives n → A
+not-both m n e = let z : _≡_ {A = ℕ} 0 1 = cc in absurd (omega arith)

@@ -1,0 +1,53 @@
+// The refusals of the house (document 01, "Refusals of the house").
+ghost use mathlib.Core.Path.{_≡_};
+ghost use Rattle.refusal.specs.House.{houseNumber};
+
+pub enum Refusal {
+    // H1: the store buffer is not 3,852 bytes.
+    StoreLength,
+    // H2: the output buffer is under 1,032 bytes.
+    OutputLength,
+    // H3: a message to a closed session.
+    SessionClosed,
+    // H4: a message shorter than its header.
+    MessageShort,
+    // H5: waiting, and no valid session init.
+    NoSessionInit,
+    // H6: begin with the own identity equal to the peer's.
+    SameIdentity,
+    // H7: a unit under 9 or over 1,032 bytes.
+    UnitLength,
+    // H8: the MAC differs.
+    MacDiffers,
+    // H9: the MAC is right; the user data are empty, or ETY, MTI or direction wrong.
+    UnitContents,
+    // H10: the user data to protect are not 1 to 1,023 bytes.
+    DataLength,
+    // H11: no key fits.
+    NoKey,
+    // H12: a search in an unsound store.
+    StoreUnsound,
+    // H13: the lent key is not 24 bytes.
+    KeyLength,
+}
+
+// The number that document 01 gives the refusal.
+pub fn house_number(h: Refusal) -> u8
+    ensures { λ r. ⌜ r ≡ houseNumber h ⌝ }
+{
+    match h {
+        Refusal::StoreLength => 1,
+        Refusal::OutputLength => 2,
+        Refusal::SessionClosed => 3,
+        Refusal::MessageShort => 4,
+        Refusal::NoSessionInit => 5,
+        Refusal::SameIdentity => 6,
+        Refusal::UnitLength => 7,
+        Refusal::MacDiffers => 8,
+        Refusal::UnitContents => 9,
+        Refusal::DataLength => 10,
+        Refusal::NoKey => 11,
+        Refusal::StoreUnsound => 12,
+        Refusal::KeyLength => 13,
+    }
+}
