@@ -1,0 +1,4 @@
+pub mod BoolLaws
+pub mod PartLaws
+pub mod NumberLaws
+pub mod SpliceLaws
