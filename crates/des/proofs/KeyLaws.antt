@@ -1,0 +1,41 @@
+-- The keys of the iterations: made one by one, and the order in which they are used.
+-- Assumes nothing.
+use mathlib.Core.Path.{_≡_, refl, ap, ap₂, _∙_}
+use mathlib.Core.List.{List}
+use Prim.Native.Nat.{ℕ, zero, suc, _+_, _≤_, _<_}
+use native.Mathlib.Omega.{arith}
+use borrow.Author.Count.{below-more}
+use borrow.Author.Tests.{leb-true}
+use lib.Dec.{leb}
+use lib.ListN.{length, getD, set}
+use lib.Seq.{getD-set-same, getD-set-other}
+use Rattle.des.specs.Bits.{bits}
+use Rattle.des.specs.Tables.{ip, ipInverse, shifts}
+use Rattle.des.specs.Des.{permute, swap, shiftBoth, shifted, subkey, round, rounds, cipher}
+use Rattle.des.proofs.TestLaws.{every-at}
+
+rounds-by : (ks js : ℕ → List ℕ) (n : ℕ) (l : List ℕ) → ((m : ℕ) → m < n → ks m ≡ js m) → rounds ks n l ≡ rounds js n l
+unfolding rounds
+rounds-by ks js zero l h = refl
+rounds-by ks js (suc n) l h = ap₂ round (h n (omega arith)) (rounds-by ks js n l (λ m k. h m (omega arith)))
+
+pub keys-step : (key keys : List ℕ) (n q : ℕ) → n < length keys → ((m : ℕ) → m < n → bits 48 (getD keys m 0) ≡ subkey key m) → bits 48 q ≡ subkey key n
+    → (m : ℕ) → m < n + 1 → bits 48 (getD (set keys n q) m 0) ≡ subkey key m
+keys-step key keys n q h all e =
+    below-more (λ (m : ℕ). bits 48 (getD (set keys n q) m 0) ≡ subkey key m) n
+    (λ m l. ap (bits 48) (getD-set-other keys n m q 0 (λ (p : m ≡ n). omega arith)) ∙ all m l)
+    (ap (bits 48) (getD-set-same keys n q 0 h) ∙ e)
+
+pub shifted-step : (key : List ℕ) (n cd d : ℕ) {s : ℕ} → s ≡ getD shifts n 0 → bits 56 cd ≡ shifted key n → bits 56 d ≡ shiftBoth s (bits 56 cd)
+    → bits 56 d ≡ shifted key (suc n)
+unfolding shifted
+shifted-step key n cd d hs h e = e ∙ ap₂ shiftBoth hs h
+
+pub few : (n : ℕ) → n < 16 → getD shifts n 0 ≤ 28
+unfolding shifts
+few n h = leb-true (getD shifts n 0) 28 (every-at (λ (x : ℕ). leb x 28) shifts refl n h)
+
+-- a cipher looks at its sixteen keys alone
+pub cipher-by : (ks js : ℕ → List ℕ) (x : List ℕ) → ((m : ℕ) → m < 16 → ks m ≡ js m) → cipher ks x ≡ cipher js x
+unfolding cipher
+cipher-by ks js x h = ap (λ (l : List ℕ). permute ipInverse (swap 32 l)) (rounds-by ks js 16 (permute ip x) h)

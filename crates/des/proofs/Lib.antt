@@ -1,0 +1,10 @@
+pub mod TestLaws
+pub mod BitLaws
+pub mod BlockLaws
+pub mod ByteLaws
+pub mod WordLaws
+pub mod KeyLaws
+pub mod CipherLaws
+pub mod ParityLaws
+pub mod Theorems
+pub mod Examples

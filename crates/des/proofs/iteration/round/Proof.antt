@@ -1,0 +1,15 @@
+-- `des::iteration::round` meets its contract.
+-- Assumes nothing.
+use borrow.Author.Needs.{needs}
+use Rattle.des.proofs.WordLaws.{rounded}
+use Rattle.des.proofs.iteration.round.Statement.{statement}
+use Rattle.des.proofs.iteration.round.Tie as tie
+
+cipher-function-requires : tie.Need-cipher-function-requires
+cipher-function-requires c κs = search needs
+
+returns : tie.Need-returns
+returns c = rounded (c .before .args .lr) (c .before .args .k) (c .cipher-function .result) (c .before .fits .lr .fits) (c .cipher-function .ensures)
+
+pub round-spec : {M : Type 1} → statement M
+round-spec = tie.close (tie.spec cipher-function-requires returns)

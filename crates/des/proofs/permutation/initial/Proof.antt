@@ -1,0 +1,21 @@
+-- `des::permutation::initial` meets its contract: the constant IP is the table of the specification.
+-- Assumes nothing.
+use mathlib.Core.Path.{refl}
+use lib.Dec.{lit≤}
+use borrow.Author.Needs.{needs}
+use Rattle.des.specs.Tables.{ip}
+use Rattle.des.proofs.permutation.initial.Statement.{statement}
+use Rattle.des.proofs.permutation.initial.Tie as tie
+
+slice-aggregate-permute : tie.Need-slice-aggregate-permute
+slice-aggregate-permute c = search needs
+
+permute-requires : tie.Need-permute-requires
+permute-requires c κs = record { wide = lit≤ tt; short = lit≤ tt; entries = refl }
+
+returns : tie.Need-returns
+unfolding ip
+returns c = c .permute .ensures
+
+pub initial-spec : {M : Type 1} → statement M
+initial-spec = tie.close (tie.spec slice-aggregate-permute permute-requires returns)

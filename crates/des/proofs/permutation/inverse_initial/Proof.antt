@@ -1,0 +1,21 @@
+-- `des::permutation::inverse_initial` meets its contract: the constant IP_INVERSE is the table of the specification.
+-- Assumes nothing.
+use mathlib.Core.Path.{refl}
+use lib.Dec.{lit≤}
+use borrow.Author.Needs.{needs}
+use Rattle.des.specs.Tables.{ipInverse}
+use Rattle.des.proofs.permutation.inverse_initial.Statement.{statement}
+use Rattle.des.proofs.permutation.inverse_initial.Tie as tie
+
+slice-aggregate-permute : tie.Need-slice-aggregate-permute
+slice-aggregate-permute c = search needs
+
+permute-requires : tie.Need-permute-requires
+permute-requires c κs = record { wide = lit≤ tt; short = lit≤ tt; entries = refl }
+
+returns : tie.Need-returns
+unfolding ipInverse
+returns c = c .permute .ensures
+
+pub inverse-initial-spec : {M : Type 1} → statement M
+inverse-initial-spec = tie.close (tie.spec slice-aggregate-permute permute-requires returns)
