@@ -1,0 +1,6 @@
+pub mod StringLaws
+pub mod MacLaws
+pub mod KeyLaws
+pub mod UnitLaws
+pub mod AnswerLaws
+pub mod Theorems

@@ -1,0 +1,15 @@
+-- `authentication::unit::between` meets its contract.
+-- Assumes nothing.
+use Prim.Native.Nat.{_-_}
+use borrow.Author.Tests.{le-leb, lt-leb}
+use Rattle.authentication.proofs.unit.between.Statement.{statement}
+use Rattle.authentication.proofs.unit.between.Tie as tie
+
+returns : tie.Need-returns
+returns c = let a = c .before .args in simp (lt-leb (a .low) (a .n) (c .if1 .taken))
+
+returns-2 : tie.Need-returns-2
+returns-2 c = let a = c .before .args in simp (le-leb (a .low) (a .n) (c .if1 .left))
+
+pub between-spec : {M : Type 1} → statement M
+between-spec = tie.close (tie.spec returns returns-2)

@@ -1,0 +1,4 @@
+pub mod Mac
+pub mod Keys
+pub mod Unit
+pub mod Claims
