@@ -1,0 +1,240 @@
+//! The key store (01, "The key store", "What each request does", "Key search").
+//!
+//! A store is decoded to a list of entries, the list is edited, and encoded again.
+
+use crate::reader::Reader;
+use crate::refusal::{H1, H11, H12};
+use crate::Identity;
+
+pub const LENGTH: usize = 3852;
+pub const KEYS_MAX: usize = 64;
+pub const PEERS_MAX: usize = 256;
+
+const EDITION: u16 = 1;
+const KEYS_AT: usize = 12;
+const RECORD_LENGTH: usize = 44;
+const PEERS_AT: usize = KEYS_AT + KEYS_MAX * RECORD_LENGTH;
+const PEER_LENGTH: usize = 4;
+
+/// Issuer and serial number, which name a key (000, 5.3.4.2).
+#[derive(Clone, Copy, PartialEq, Eq, Debug)]
+pub struct KeyIdentifier {
+    pub issuer: Identity,
+    pub serial: [u8; 4],
+}
+
+#[derive(Clone, PartialEq, Eq, Debug)]
+pub struct Entry {
+    pub key: KeyIdentifier,
+    pub kmac: [u8; 24],
+    pub start: u32,
+    pub end: u32,
+    pub peers: Vec<Identity>,
+}
+
+/// One request of a command message.
+#[derive(Clone, PartialEq, Eq, Debug)]
+pub enum Request {
+    Add {
+        recipient: Identity,
+        entry: Entry,
+    },
+    Delete(KeyIdentifier),
+    UpdateValidity {
+        key: KeyIdentifier,
+        start: u32,
+        end: u32,
+    },
+    UpdateEntities {
+        key: KeyIdentifier,
+        peers: Vec<Identity>,
+    },
+}
+
+/// The RESULT numbers in use (000, 5.3.15.1).
+pub mod result {
+    pub const DONE: u8 = 0;
+    pub const UNKNOWN_KEY: u8 = 1;
+    pub const TOO_MANY_KEYS: u8 = 2;
+    pub const ALREADY_INSTALLED: u8 = 3;
+    pub const CORRUPTED: u8 = 4;
+    pub const RECIPIENT_MISMATCH: u8 = 5;
+    pub const OTHER_ERROR: u8 = 255;
+}
+
+/// The entries of a sound store of the right length; `None` for any other.
+pub fn decode(store: &[u8]) -> Option<Vec<Entry>> {
+    if store.len() != LENGTH {
+        return None;
+    }
+    let (key_count, peer_count) = counts(store)?;
+    let keys_end = KEYS_AT + key_count * RECORD_LENGTH;
+    let peers_end = PEERS_AT + peer_count * PEER_LENGTH;
+    let mut records = Reader(&store[KEYS_AT..keys_end]);
+    let mut peers = Reader(&store[PEERS_AT..peers_end]);
+    let mut entries = Vec::new();
+    while !records.is_at_end() {
+        let used = peer_sum(&entries);
+        entries.push(entry(&mut records, &mut peers, used)?);
+    }
+    let unused = [&store[keys_end..PEERS_AT], &store[peers_end..]].concat();
+    let sound = peers.is_at_end()
+        && identifiers_differ(&entries)
+        && entries.iter().all(|entry| has_odd_parity(&entry.kmac))
+        && unused.iter().all(|&byte| byte == 0);
+    sound.then_some(entries)
+}
+
+/// The two counts, where they are in their limits and the four fixed numbers hold.
+fn counts(store: &[u8]) -> Option<(usize, usize)> {
+    let numbers: [u16; 6] =
+        std::array::from_fn(|i| u16::from_be_bytes([store[2 * i], store[2 * i + 1]]));
+    let key_count = usize::from(numbers[1]);
+    let peer_count = usize::from(numbers[3]);
+    let right = numbers == header_numbers(key_count, peer_count)
+        && key_count <= KEYS_MAX
+        && peer_count <= PEERS_MAX;
+    right.then_some((key_count, peer_count))
+}
+
+/// The next record with its peers. Its first index must be `used`, the sum before it.
+fn entry(records: &mut Reader, peers: &mut Reader, used: usize) -> Option<Entry> {
+    let key = KeyIdentifier {
+        issuer: records.bytes()?,
+        serial: records.bytes()?,
+    };
+    let kmac = records.bytes()?;
+    let start = records.u32()?;
+    let end = records.u32()?;
+    if usize::from(records.u16()?) != used {
+        return None;
+    }
+    let count = records.u16()?;
+    let peers = (0..count).map(|_| peers.bytes()).collect::<Option<_>>()?;
+    Some(Entry {
+        key,
+        kmac,
+        start,
+        end,
+        peers,
+    })
+}
+
+fn identifiers_differ(entries: &[Entry]) -> bool {
+    let is_first = |(i, entry): (usize, &Entry)| place(entries, &entry.key) == Some(i);
+    entries.iter().enumerate().all(is_first)
+}
+
+fn has_odd_parity(kmac: &[u8; 24]) -> bool {
+    kmac.iter().all(|byte| byte.count_ones() % 2 == 1)
+}
+
+/// The one store of a list within the limits.
+pub fn encode(entries: &[Entry]) -> Vec<u8> {
+    let mut store = Vec::new();
+    for number in header_numbers(entries.len(), peer_sum(entries)) {
+        store.extend(number.to_be_bytes());
+    }
+    let mut first = 0;
+    for entry in entries {
+        store.extend(entry.key.issuer);
+        store.extend(entry.key.serial);
+        store.extend(entry.kmac);
+        store.extend(entry.start.to_be_bytes());
+        store.extend(entry.end.to_be_bytes());
+        store.extend((first as u16).to_be_bytes());
+        store.extend((entry.peers.len() as u16).to_be_bytes());
+        first += entry.peers.len();
+    }
+    store.resize(PEERS_AT, 0);
+    for entry in entries {
+        store.extend(entry.peers.concat());
+    }
+    store.resize(LENGTH, 0);
+    store
+}
+
+fn header_numbers(key_count: usize, peer_count: usize) -> [u16; 6] {
+    [
+        EDITION,
+        key_count as u16,
+        KEYS_AT as u16,
+        peer_count as u16,
+        PEERS_AT as u16,
+        LENGTH as u16,
+    ]
+}
+
+/// Works one request on the list. Gives its RESULT; the list changes only with RESULT 0.
+pub fn work(entries: &mut Vec<Entry>, own: &Identity, request: Request) -> u8 {
+    match request {
+        Request::Add { recipient, entry } => add(entries, own, recipient, entry),
+        Request::Delete(key) => on_held(entries, &key, |entries, i| {
+            entries.remove(i);
+            result::DONE
+        }),
+        Request::UpdateValidity { key, start, end } => on_held(entries, &key, |entries, i| {
+            entries[i].start = start;
+            entries[i].end = end;
+            result::DONE
+        }),
+        Request::UpdateEntities { key, peers } => on_held(entries, &key, |entries, i| {
+            if peer_sum(entries) - entries[i].peers.len() + peers.len() > PEERS_MAX {
+                return result::OTHER_ERROR;
+            }
+            entries[i].peers = peers;
+            result::DONE
+        }),
+    }
+}
+
+/// The first reason that applies, in 01's order.
+fn add(entries: &mut Vec<Entry>, own: &Identity, recipient: Identity, entry: Entry) -> u8 {
+    if recipient != *own {
+        return result::RECIPIENT_MISMATCH;
+    }
+    if !has_odd_parity(&entry.kmac) {
+        return result::CORRUPTED;
+    }
+    if place(entries, &entry.key).is_some() {
+        return result::ALREADY_INSTALLED;
+    }
+    if entries.len() >= KEYS_MAX {
+        return result::TOO_MANY_KEYS;
+    }
+    if peer_sum(entries) + entry.peers.len() > PEERS_MAX {
+        return result::OTHER_ERROR;
+    }
+    entries.push(entry);
+    result::DONE
+}
+
+/// Does `change` at the place of a held key; RESULT 1 where the key is not held.
+fn on_held(
+    entries: &mut Vec<Entry>,
+    key: &KeyIdentifier,
+    change: impl FnOnce(&mut Vec<Entry>, usize) -> u8,
+) -> u8 {
+    match place(entries, key) {
+        Some(i) => change(entries, i),
+        None => result::UNKNOWN_KEY,
+    }
+}
+
+fn place(entries: &[Entry], key: &KeyIdentifier) -> Option<usize> {
+    entries.iter().position(|entry| entry.key == *key)
+}
+
+fn peer_sum(entries: &[Entry]) -> usize {
+    entries.iter().map(|entry| entry.peers.len()).sum()
+}
+
+/// The place, from 1, of the first record for `peer` with start <= t < end.
+pub fn find(store: &[u8], peer: &Identity, t: u32) -> Result<usize, u8> {
+    if store.len() != LENGTH {
+        return Err(H1);
+    }
+    let entries = decode(store).ok_or(H12)?;
+    let fits = |entry: &Entry| entry.peers.contains(peer) && entry.start <= t && t < entry.end;
+    entries.iter().position(fits).map(|i| i + 1).ok_or(H11)
+}

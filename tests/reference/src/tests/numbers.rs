@@ -1,0 +1,120 @@
+//! The numbers of 01, "Numbers to work by hand".
+
+use super::{entries, entry, k_struct, k_struct_for, message, peers, reply, Bench};
+use super::{CENTRE, OWN, RECEIVER_AT};
+use crate::authentication::{check, mac};
+use crate::message::kind;
+use crate::session::{CLOSED, OPEN};
+use crate::store::{encode, find};
+
+#[test]
+fn empty_store_delete() {
+    let mut bench = Bench::new(&[]);
+    assert_eq!(bench.delete(&[1]), [1]);
+    assert_eq!(bench.store, encode(&[]));
+}
+
+#[test]
+fn one_key_twice_in_a_message() {
+    let mut bench = Bench::new(&[]);
+    assert_eq!(bench.add(&[entry(1, 2), entry(1, 2)]), [0, 3]);
+    assert_eq!(bench.entries(), entries(&[2]));
+}
+
+#[test]
+fn sixty_four_keys() {
+    let mut bench = Bench::new(&entries(&[1; 64]));
+    assert_eq!(bench.add(&[entry(65, 1)]), [2]);
+    assert_eq!(bench.entries(), entries(&[1; 64]));
+    assert_eq!(bench.delete(&[10]), [0]);
+    assert_eq!(bench.add(&[entry(65, 1)]), [0]);
+    let held = bench.entries();
+    assert_eq!(held.len(), 64);
+    assert_eq!(held[8], entry(9, 1));
+    assert_eq!(held[9], entry(11, 1));
+    assert_eq!(held[63], entry(65, 1));
+}
+
+#[test]
+fn peers_used_253() {
+    let mut bench = Bench::new(&entries(&[200, 53]));
+    assert_eq!(bench.add(&[entry(3, 4)]), [255]);
+    assert_eq!(bench.entries(), entries(&[200, 53]));
+    assert_eq!(bench.add(&[entry(3, 3)]), [0]);
+    assert_eq!(bench.entries(), entries(&[200, 53, 3]));
+}
+
+#[test]
+fn peers_used_256() {
+    let mut bench = Bench::new(&entries(&[240, 10, 6]));
+    assert_eq!(bench.replace_peers(2, &peers(200, 11)), [255]);
+    assert_eq!(bench.entries(), entries(&[240, 10, 6]));
+    assert_eq!(bench.replace_peers(2, &peers(200, 10)), [0]);
+    assert_eq!(bench.entries()[1].peers, peers(200, 10));
+    assert_eq!(bench.entries()[2], entry(3, 6));
+}
+
+#[test]
+fn kmac_byte_zero() {
+    let mut bench = Bench::new(&[]);
+    let mut bad = entry(1, 1);
+    bad.kmac[5] = 0;
+    assert_eq!(bench.work(kind::ADD_KEYS, &[k_struct(&bad)]), [4]);
+    let elsewhere = k_struct_for(CENTRE, &bad);
+    assert_eq!(bench.work(kind::ADD_KEYS, &[elsewhere]), [5]);
+    assert_eq!(bench.store, encode(&[]));
+}
+
+#[test]
+fn moment_against_start_and_end() {
+    let mut list = entries(&[1]);
+    (list[0].start, list[0].end) = (100, 200);
+    let peer = list[0].peers[0];
+    let store = encode(&list);
+    assert_eq!(find(&store, &peer, 99), Err(11));
+    assert_eq!(find(&store, &peer, 100), Ok(1));
+    assert_eq!(find(&store, &peer, 199), Ok(1));
+    assert_eq!(find(&store, &peer, 200), Err(11));
+    list[0].end = 100;
+    let store = encode(&list);
+    for t in [99, 100, 101] {
+        assert_eq!(find(&store, &peer, t), Err(11));
+    }
+}
+
+#[test]
+fn zero_is_expected_after_65535() {
+    let mut bench = Bench::new(&[]);
+    bench.session.expected = 65535;
+    bench.session.next = 65535;
+    let first = message(kind::DELETE_ALL_KEYS, 65535, &[]);
+    bench.assert_reply(&first, &reply(65535, 0, &[]));
+    assert_eq!(bench.session.state, OPEN);
+    assert_eq!(bench.session.expected, 0);
+    assert_eq!(bench.session.next, 0);
+    let second = message(kind::DELETE_ALL_KEYS, 0, &[]);
+    bench.assert_reply(&second, &reply(0, 0, &[]));
+}
+
+#[test]
+fn length_and_receiver_both_wrong() {
+    let mut bench = Bench::new(&[]);
+    let mut wrong = message(kind::DELETE_ALL_KEYS, 300, &[]);
+    wrong[3] += 1;
+    wrong[RECEIVER_AT] ^= 1;
+    bench.assert_reply(&wrong, &reply(700, 2, &[]));
+    assert_eq!(bench.session.state, CLOSED);
+}
+
+#[test]
+fn units_of_8_9_and_1033_bytes() {
+    let key = [7; 24];
+    let destination = [OWN[1], OWN[2], OWN[3]];
+    let nine = [&[0x0a][..], &mac(&key, &destination, &[0x0a])].concat();
+    assert_eq!(check(&nine[..8], &key, &destination, false), Err(7));
+    assert_eq!(check(&nine, &key, &destination, false), Err(9));
+    let message = [0x0a; 1025];
+    let long = [&message[..], &mac(&key, &destination, &message)].concat();
+    assert_eq!(long.len(), 1033);
+    assert_eq!(check(&long, &key, &destination, false), Err(7));
+}

@@ -1,0 +1,515 @@
+//! Beginning, opening, the table of tests, the bodies, and the refusals in their order.
+
+use super::{entries, entry, k_entities, k_identifier, k_struct, k_validity, message, peer_list};
+use super::{open_session, peers, reply, requests, Bench, CENTRE, OWN};
+use super::{RECEIVER_AT, SENDER_AT, SEQUENCE_AT, TYPE_AT, VERSION_AT};
+use crate::message::kind;
+use crate::session::{begin, receive, Answer, Session, CLOSED, OPEN, WAITING};
+use crate::store::encode;
+
+const COMMANDS_WITH_REQUESTS: [u8; 4] = [
+    kind::ADD_KEYS,
+    kind::DELETE_KEYS,
+    kind::UPDATE_KEY_VALIDITIES,
+    kind::UPDATE_KEY_ENTITIES,
+];
+
+fn waiting() -> Session {
+    Session {
+        state: WAITING,
+        expected: 0,
+        ..open_session()
+    }
+}
+
+fn session_init(sequence: u16, body: &[u8]) -> Vec<u8> {
+    message(kind::SESSION_INIT, sequence, body)
+}
+
+/// One request of a command that has requests, on key 1.
+fn structure(command: u8) -> Vec<u8> {
+    match command {
+        kind::ADD_KEYS => k_struct(&entry(1, 1)),
+        kind::DELETE_KEYS => k_identifier(1),
+        kind::UPDATE_KEY_VALIDITIES => k_validity(1, 5, 6),
+        _ => k_entities(1, &peers(1, 1)),
+    }
+}
+
+fn unsound() -> Vec<u8> {
+    let mut store = encode(&entries(&[1]));
+    store[3851] = 1;
+    store
+}
+
+/// Asserts one reply with a RESPONSE other than 0, that the store stays, and the session.
+fn assert_response(store: Vec<u8>, message: &[u8], response: u8, state: u8) {
+    let mut bench = Bench::new(&[]);
+    bench.store = store.clone();
+    bench.assert_reply(message, &reply(700, response, &[]));
+    assert_eq!(bench.store, store);
+    let expected = Session {
+        state,
+        next: 701,
+        expected: if state == OPEN { 301 } else { 300 },
+        ..open_session()
+    };
+    assert_eq!(bench.session, expected);
+}
+
+/// Asserts RESPONSE 11 for a body.
+fn assert_format_error(kind: u8, body: &[u8]) {
+    let store = encode(&entries(&[1]));
+    assert_response(store, &message(kind, 300, body), 11, CLOSED);
+}
+
+/// Asserts RESPONSE 0 for a body.
+fn assert_accepted(kind: u8, body: &[u8]) {
+    let mut bench = Bench::new(&entries(&[1]));
+    bench.receive(&message(kind, 300, body));
+    assert_eq!(bench.out[20], 0);
+    assert_eq!(bench.session.state, OPEN);
+}
+
+#[test]
+fn begin_writes_a_session_init() {
+    let mut out = [0xee; 1032];
+    let (session, length) = begin(OWN, CENTRE, 0x1234, &mut out).unwrap();
+    let header = [0, 0, 0, 23, 2];
+    let tail = [0, 0, 0, 0, 0x12, 0x34, 9, 1, 2, 255];
+    assert_eq!(length, 23);
+    assert_eq!(out[..23], [&header[..], &CENTRE, &OWN, &tail].concat());
+    assert_eq!(out[23..], [0xee; 1009]);
+    let expected = Session {
+        state: WAITING,
+        own: OWN,
+        peer: CENTRE,
+        next: 0x1235,
+        expected: 0,
+    };
+    assert_eq!(session, expected);
+}
+
+#[test]
+fn begin_number_wraps() {
+    let (session, _) = begin(OWN, CENTRE, 65535, &mut [0; 1032]).unwrap();
+    assert_eq!(session.next, 0);
+}
+
+#[test]
+fn begin_refusals_in_order() {
+    for (peer, room, refusal) in [
+        (CENTRE, 1031, 2),
+        (OWN, 1031, 2),
+        (OWN, 0, 2),
+        (OWN, 1032, 6),
+    ] {
+        let mut out = vec![0xee; room];
+        assert_eq!(begin(OWN, peer, 1, &mut out), Err(refusal));
+        assert!(out.iter().all(|&byte| byte == 0xee));
+    }
+}
+
+#[test]
+fn a_session_init_opens() {
+    let all: Vec<u8> = (0..255).collect();
+    let bodies = [
+        vec![1, 2, 255],
+        vec![1, 2, 0],
+        vec![1, 2, 30],
+        vec![3, 1, 2, 3, 5],
+        vec![2, 2, 2, 5],
+        [&[255], &all[..], &[9]].concat(),
+    ];
+    for body in bodies {
+        for sequence in [0, 41, 65535] {
+            let mut bench = Bench::new(&entries(&[1]));
+            bench.session = waiting();
+            let answer = bench.receive(&session_init(sequence, &body));
+            assert_eq!(answer, Answer::Opened);
+            let opened = Session {
+                state: OPEN,
+                expected: sequence.wrapping_add(1),
+                ..waiting()
+            };
+            assert_eq!(bench.session, opened);
+            assert_eq!(bench.out, [0xee; 1032]);
+            assert_eq!(bench.store, encode(&entries(&[1])));
+        }
+    }
+}
+
+#[test]
+fn a_session_init_opens_over_an_unsound_store() {
+    let mut bench = Bench::new(&[]);
+    bench.session = waiting();
+    bench.store = unsound();
+    assert_eq!(
+        bench.receive(&session_init(5, &[1, 2, 255])),
+        Answer::Opened
+    );
+    assert_eq!(bench.store, unsound());
+}
+
+#[test]
+fn anything_else_closes_a_waiting_session() {
+    let changed = |at: usize| {
+        let mut message = session_init(5, &[1, 2, 255]);
+        message[at] ^= 1;
+        message
+    };
+    let mut messages = vec![
+        changed(0),
+        changed(3),
+        changed(VERSION_AT),
+        changed(RECEIVER_AT),
+        changed(RECEIVER_AT + 3),
+        changed(SENDER_AT),
+        changed(SENDER_AT + 3),
+        changed(TYPE_AT),
+        message(kind::DELETE_ALL_KEYS, 5, &[]),
+        message(kind::END_OF_UPDATE, 5, &[]),
+        [session_init(5, &[1, 2, 255]), vec![0]].concat(),
+    ];
+    let bodies: [&[u8]; 10] = [
+        &[],
+        &[0],
+        &[2],
+        &[0, 255],
+        &[0, 2],
+        &[1, 2],
+        &[1, 3, 2],
+        &[2, 2, 255],
+        &[1, 2, 255, 0],
+        &[0, 2, 2],
+    ];
+    messages.extend(bodies.map(|body| session_init(5, body)));
+    for message in messages {
+        let mut bench = Bench::new(&entries(&[1]));
+        bench.session = waiting();
+        assert_eq!(bench.receive(&message), Answer::Refused(5));
+        let closed = Session {
+            state: CLOSED,
+            ..waiting()
+        };
+        assert_eq!(bench.session, closed);
+        assert_eq!(bench.out, [0xee; 1032]);
+        assert_eq!(bench.store, encode(&entries(&[1])));
+    }
+}
+
+#[test]
+fn row_length() {
+    for at in 0..4 {
+        let mut wrong = message(kind::DELETE_ALL_KEYS, 300, &[]);
+        wrong[at] ^= 1;
+        assert_response(encode(&entries(&[1])), &wrong, 2, CLOSED);
+    }
+}
+
+#[test]
+fn row_length_over_5000() {
+    let long = message(kind::DELETE_KEYS, 300, &[0; 4981]);
+    assert_eq!(long.len(), 5001);
+    assert_response(encode(&entries(&[1])), &long, 2, CLOSED);
+    let allowed = message(kind::DELETE_KEYS, 300, &[0; 4980]);
+    assert_response(encode(&entries(&[1])), &allowed, 11, CLOSED);
+}
+
+#[test]
+fn row_version() {
+    for version in [0, 1, 3, 255] {
+        let mut wrong = message(kind::DELETE_ALL_KEYS, 300, &[]);
+        wrong[VERSION_AT] = version;
+        assert_response(encode(&entries(&[1])), &wrong, 5, CLOSED);
+    }
+}
+
+#[test]
+fn row_receiver() {
+    let mut wrong = message(kind::DELETE_ALL_KEYS, 300, &[]);
+    wrong[RECEIVER_AT..RECEIVER_AT + 4].copy_from_slice(&CENTRE);
+    assert_response(encode(&entries(&[1])), &wrong, 4, CLOSED);
+}
+
+#[test]
+fn row_sender() {
+    let mut wrong = message(kind::DELETE_ALL_KEYS, 300, &[]);
+    wrong[SENDER_AT..SENDER_AT + 4].copy_from_slice(&OWN);
+    assert_response(encode(&entries(&[1])), &wrong, 3, CLOSED);
+}
+
+#[test]
+fn row_sequence() {
+    for sequence in [0, 299, 301, 300 ^ 0x0100, 65535] {
+        let wrong = message(kind::DELETE_ALL_KEYS, sequence, &[]);
+        assert_response(encode(&entries(&[1])), &wrong, 9, CLOSED);
+    }
+}
+
+#[test]
+fn row_type() {
+    for kind in (5..=9).chain(11..=255) {
+        let other = message(kind, 300, &[1, 2, 255]);
+        assert_response(encode(&entries(&[1])), &other, 1, OPEN);
+    }
+}
+
+#[test]
+fn row_body() {
+    for command in COMMANDS_WITH_REQUESTS {
+        let body = requests(&[structure(command)]);
+        assert_accepted(command, &body);
+        for length in 0..body.len() {
+            assert_format_error(command, &body[..length]);
+        }
+        assert_format_error(command, &[&body[..], &[0]].concat());
+        assert_format_error(command, &[&[0, 2], &body[2..]].concat());
+    }
+    for command in [kind::DELETE_ALL_KEYS, kind::END_OF_UPDATE] {
+        assert_format_error(command, &[0]);
+        assert_format_error(command, &[0, 0]);
+    }
+}
+
+#[test]
+fn row_body_request_counts() {
+    for command in COMMANDS_WITH_REQUESTS {
+        assert_format_error(command, &requests(&[]));
+    }
+    for (command, most) in [(kind::DELETE_KEYS, 500), (kind::UPDATE_KEY_VALIDITIES, 250)] {
+        assert_accepted(command, &requests(&vec![structure(command); most]));
+        assert_format_error(command, &requests(&vec![structure(command); most + 1]));
+    }
+    let command = kind::UPDATE_KEY_ENTITIES;
+    assert_accepted(command, &requests(&vec![structure(command); 250]));
+    assert_format_error(command, &requests(&vec![structure(command); 251]));
+}
+
+/// 97 requests are the most that 5,000 bytes hold, so the limit of 100 is never met.
+#[test]
+fn row_body_most_adds() {
+    let command = kind::ADD_KEYS;
+    assert_accepted(command, &requests(&vec![structure(command); 97]));
+    let one_more = requests(&vec![structure(command); 98]);
+    let long = message(command, 300, &one_more);
+    assert_response(encode(&entries(&[1])), &long, 2, CLOSED);
+}
+
+#[test]
+fn row_body_peer_counts() {
+    let add = |count| requests(&[k_struct(&entry(2, count))]);
+    let update = |count| requests(&[k_entities(1, &peers(1, count))]);
+    for count in [1, 1000] {
+        assert_accepted(kind::ADD_KEYS, &add(count));
+        assert_accepted(kind::UPDATE_KEY_ENTITIES, &update(count));
+    }
+    for count in [0, 1001] {
+        assert_format_error(kind::ADD_KEYS, &add(count));
+        assert_format_error(kind::UPDATE_KEY_ENTITIES, &update(count));
+    }
+}
+
+#[test]
+fn row_body_each_structure_has_its_own_peer_count() {
+    let two = [k_entities(1, &peers(1, 3)), k_entities(1, &peers(1, 2))];
+    assert_accepted(kind::UPDATE_KEY_ENTITIES, &requests(&two));
+}
+
+#[test]
+fn row_body_key_length() {
+    for length in [0, 8, 16, 23, 25, 255] {
+        let mut structure = k_struct(&entry(2, 1));
+        structure[0] = length;
+        assert_format_error(kind::ADD_KEYS, &requests(&[structure]));
+    }
+    let short = [&[23][..], &k_struct(&entry(2, 1))[2..]].concat();
+    assert_format_error(kind::ADD_KEYS, &requests(&[short]));
+}
+
+#[test]
+fn row_body_fault_in_the_last_request_works_none() {
+    let mut last = k_struct(&entry(3, 1));
+    last[0] = 23;
+    let body = requests(&[k_struct(&entry(2, 1)), last]);
+    assert_format_error(kind::ADD_KEYS, &body);
+}
+
+#[test]
+fn row_store() {
+    for command in COMMANDS_WITH_REQUESTS {
+        let command = message(command, 300, &requests(&[structure(command)]));
+        assert_response(unsound(), &command, 6, OPEN);
+        assert_response(vec![0; 3852], &command, 6, OPEN);
+    }
+}
+
+#[test]
+fn delete_all_takes_any_store() {
+    for store in [unsound(), vec![0xff; 3852], encode(&entries(&[4; 64]))] {
+        let mut bench = Bench::new(&[]);
+        bench.store = store;
+        let command = message(kind::DELETE_ALL_KEYS, 300, &[]);
+        bench.assert_reply(&command, &reply(700, 0, &[]));
+        assert_eq!(bench.store, encode(&[]));
+        assert_eq!((bench.session.state, bench.session.expected), (OPEN, 301));
+    }
+}
+
+#[test]
+fn end_of_update_closes_and_writes_nothing() {
+    for store in [encode(&entries(&[1])), unsound()] {
+        let mut bench = Bench::new(&[]);
+        bench.store = store.clone();
+        let end = message(kind::END_OF_UPDATE, 300, &[]);
+        assert_eq!(bench.receive(&end), Answer::Ended);
+        let closed = Session {
+            state: CLOSED,
+            ..open_session()
+        };
+        assert_eq!(bench.session, closed);
+        assert_eq!(bench.out, [0xee; 1032]);
+        assert_eq!(bench.store, store);
+    }
+}
+
+/// All faults at once; the first is mended after each reply.
+#[test]
+fn rows_are_tested_in_order() {
+    let right = message(kind::DELETE_KEYS, 300, &requests(&[k_identifier(1)]));
+    let mut faulty = right.clone();
+    for at in [0, VERSION_AT, RECEIVER_AT, SENDER_AT, SEQUENCE_AT] {
+        faulty[at] ^= 1;
+    }
+    faulty[TYPE_AT] = 200;
+    faulty[20] = 1;
+    let mend = [
+        (2, 0, CLOSED),
+        (5, VERSION_AT, CLOSED),
+        (4, RECEIVER_AT, CLOSED),
+        (3, SENDER_AT, CLOSED),
+        (9, SEQUENCE_AT, CLOSED),
+        (1, TYPE_AT, OPEN),
+        (11, 20, CLOSED),
+    ];
+    for (response, at, state) in mend {
+        assert_response(unsound(), &faulty, response, state);
+        faulty[at] = right[at];
+    }
+    assert_eq!(faulty, right);
+    assert_response(unsound(), &faulty, 6, OPEN);
+}
+
+#[test]
+fn a_reply_has_the_received_transaction_number() {
+    for number in [[0; 4], [0, 0, 0, 1], [0xff; 4]] {
+        for (sequence, response) in [(300, 0), (301, 9)] {
+            let mut bench = Bench::new(&[]);
+            let mut command = message(kind::DELETE_ALL_KEYS, sequence, &[]);
+            command[13..17].copy_from_slice(&number);
+            let mut expected = reply(700, response, &[]);
+            expected[13..17].copy_from_slice(&number);
+            bench.assert_reply(&command, &expected);
+        }
+    }
+}
+
+#[test]
+fn a_repeated_transaction_number_is_not_looked_at() {
+    let mut bench = Bench::new(&[]);
+    for i in 0..3 {
+        let command = message(kind::DELETE_ALL_KEYS, 300 + i, &[]);
+        bench.assert_reply(&command, &reply(700 + i, 0, &[]));
+    }
+}
+
+#[test]
+fn the_longest_reply_has_523_bytes() {
+    let mut bench = Bench::new(&entries(&[1]));
+    let results = bench.delete(&[1; 500]);
+    assert_eq!(results[0], 0);
+    assert!(results[1..].iter().all(|&result| result == 1));
+    assert_eq!(bench.out[523..], [0xee; 509]);
+}
+
+#[test]
+fn an_update_of_validities_reaches_the_store() {
+    let mut bench = Bench::new(&entries(&[2, 3]));
+    let structures = [k_validity(2, 77, 88), k_validity(3, 1, 2)];
+    assert_eq!(bench.work(kind::UPDATE_KEY_VALIDITIES, &structures), [0, 1]);
+    let mut expected = entries(&[2, 3]);
+    (expected[1].start, expected[1].end) = (77, 88);
+    assert_eq!(bench.store, encode(&expected));
+}
+
+#[test]
+fn a_whole_session() {
+    let mut bench = Bench::new(&[]);
+    (bench.session, _) = begin(OWN, CENTRE, 699, &mut bench.out).unwrap();
+    assert_eq!(
+        bench.receive(&session_init(299, &[1, 2, 60])),
+        Answer::Opened
+    );
+    assert_eq!(bench.session, open_session());
+    assert_eq!(
+        bench.add(&[entry(1, 2), entry(2, 1), entry(3, 3)]),
+        [0, 0, 0]
+    );
+    assert_eq!(bench.delete(&[1]), [0]);
+    assert_eq!(bench.replace_peers(3, &peers(3, 1)), [0]);
+    assert_eq!(bench.entries(), [entry(2, 1), entry(3, 1)]);
+    let end = message(kind::END_OF_UPDATE, 303, &[]);
+    assert_eq!(bench.receive(&end), Answer::Ended);
+    assert_eq!(bench.receive(&end), Answer::Refused(3));
+}
+
+#[test]
+fn the_update_of_entities_has_its_fields_in_order() {
+    let body = [&[0, 1][..], &k_identifier(1), &peer_list(&[[9, 8, 7, 6]])].concat();
+    let mut bench = Bench::new(&entries(&[2]));
+    bench.receive(&message(kind::UPDATE_KEY_ENTITIES, 300, &body));
+    assert_eq!(bench.entries()[0].peers, [[9, 8, 7, 6]]);
+}
+
+/// Store length, room, state and message length, each fault with all later ones.
+#[test]
+fn message_refusals_in_order() {
+    let cases = [
+        (3851, 1031, CLOSED, 19, 1),
+        (3853, 1031, CLOSED, 19, 1),
+        (0, 0, OPEN, 20, 1),
+        (3852, 1031, CLOSED, 19, 2),
+        (3852, 0, OPEN, 20, 2),
+        (3852, 1032, CLOSED, 19, 3),
+        (3852, 1032, CLOSED, 20, 3),
+        (3852, 1032, 3, 20, 3),
+        (3852, 1032, 255, 0, 3),
+        (3852, 1032, OPEN, 19, 4),
+        (3852, 1032, OPEN, 0, 4),
+        (3852, 1032, WAITING, 19, 4),
+    ];
+    for (store_length, room, state, length, refusal) in cases {
+        let session = Session {
+            state,
+            ..open_session()
+        };
+        let mut store = vec![0xdd; store_length];
+        let mut out = vec![0xee; room];
+        let message = &message(kind::DELETE_ALL_KEYS, 300, &[])[..length];
+        let (after, answer) = receive(session, message, &mut store, &mut out);
+        assert_eq!(answer, Answer::Refused(refusal));
+        assert_eq!(after, session);
+        assert_eq!(store, vec![0xdd; store_length]);
+        assert_eq!(out, vec![0xee; room]);
+    }
+}
+
+#[test]
+fn a_session_with_itself_is_nothing_special() {
+    let mut bench = Bench::new(&[]);
+    bench.session.peer = OWN;
+    let mut command = message(kind::DELETE_ALL_KEYS, 300, &[]);
+    command[SENDER_AT..SENDER_AT + 4].copy_from_slice(&OWN);
+    assert_eq!(bench.receive(&command), Answer::Reply(23));
+    assert_eq!(bench.out[20], 0);
+}
