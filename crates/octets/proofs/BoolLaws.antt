@@ -63,6 +63,11 @@ allBelow-at (suc n) i p h l =
     (λ (b : i < n). allBelow-at n i p (and-left (allBelow n p) (p n) h) b)
     (eq-or-lt-of-le (le-of-suc-le-suc l))
 
+pub allBelow-all : (n : ℕ) (p : ℕ → Bool) → ((i : ℕ) → i < n → p i ≡ true) → allBelow n p ≡ true
+unfolding allBelow
+allBelow-all zero p h = refl
+allBelow-all (suc n) p h = and-both (allBelow n p) (p n) (allBelow-all n p (λ i l. h i (omega arith))) (h n (omega arith))
+
 -- ---- two lists are the same
 
 pub same-refl : (a : List ℕ) → same a a ≡ true

@@ -1,9 +1,9 @@
 -- Laws of the parts of a list.
 -- Assumes nothing.
-use mathlib.Core.Path.{_≡_, refl, ap, _∙_}
+use mathlib.Core.Path.{_≡_, refl, sym, ap, _∙_, subst}
 use mathlib.Core.Bool.{Bool, true, false, _&&_}
 use mathlib.Core.List.{List, [], _∷_, _++_}
-use Prim.Native.Nat.{ℕ, _+_, _-_, _≤_, _<_}
+use Prim.Native.Nat.{ℕ, zero, suc, _+_, _-_, _≤_, _<_}
 use native.Mathlib.Nat.{add-assoc}
 use native.Mathlib.Numerals.{add-one}
 use native.Mathlib.Omega.{arith}
@@ -11,7 +11,7 @@ use lib.ListN.{length, getD, take, drop, replicate, length-take, length-drop}
 use lib.Seq.{drop-cons, take-add, drop-drop, take-at, drop-at, take-all, getD-take, getD-drop}
 use lib.Dec.{eqb}
 use borrow.Author.Tests.{eqb-true, eq-eqb, ne-eqb}
-use Rattle.octets.specs.Bytes.{part, allZero}
+use Rattle.octets.specs.Bytes.{Bytes, part, allZero}
 use Rattle.octets.proofs.BoolLaws.{and-left, and-right}
 
 pub part-none : (s : List ℕ) (i : ℕ) → part s i 0 ≡ []
@@ -25,6 +25,17 @@ part-length s i n h = simp (length-take, length-drop) (omega arith)
 pub part-at : (s : List ℕ) (i n k : ℕ) → k < n → getD (part s i n) k 0 ≡ getD s (i + k) 0
 unfolding part
 part-at s i n k h = rw (getD-take, getD-drop)
+
+-- the elements of a part are bytes where all are
+take-bytes : (n : ℕ) (s : List ℕ) → Bytes s → Bytes (take n s)
+take-bytes zero s b k = omega arith
+take-bytes (suc n) [] b k = omega arith
+take-bytes (suc n) (x ∷ s) b zero = b 0
+take-bytes (suc n) (x ∷ s) b (suc k) = take-bytes n s (λ j. b (suc j)) k
+
+pub bytes-part : (s : List ℕ) → Bytes s → (i n : ℕ) → Bytes (part s i n)
+unfolding part
+bytes-part s b i n k = take-bytes n (drop i s) (λ j. subst (λ (x : ℕ). x < 256) (sym (getD-drop i s j 0)) (b (i + j))) k
 
 pub part-whole : (s : List ℕ) (n : ℕ) → length s ≡ n → part s 0 n ≡ s
 unfolding part

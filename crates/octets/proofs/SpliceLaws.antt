@@ -70,6 +70,17 @@ splice-splice d i v w k e h =
     ∙ ap (λ (x : ℕ). i + (x + length w)) (sym e)
     ∙ ap (λ (x : ℕ). i + x) (sym (length-append v w))))
 
+-- the front of a list written after what follows it
+pub splice-head : (d v w : List ℕ) (k : ℕ) → length v ≡ k → k ≤ length d → splice (splice d k w) 0 v ≡ splice d 0 (v ++ w)
+unfolding splice
+splice-head d v w k e h =
+    let z : 0 + length v ≡ k = omega arith in
+    let y : k + length w ≡ 0 + length (v ++ w) = omega (arith, length-append v w) in
+    ap (λ (n : ℕ). v ++ drop n (splice d k w)) z
+    ∙ ap (λ (l : List ℕ). v ++ l) (drop-at (take k d) (w ++ drop (k + length w) d) k (length-take-le k d h))
+    ∙ ap (λ (n : ℕ). v ++ (w ++ drop n d)) y
+    ∙ sym (append-assoc v w (drop (0 + length (v ++ w)) d))
+
 -- a list all written over
 pub splice-all : (d v : List ℕ) → length d ≡ length v → splice d 0 v ≡ v
 unfolding splice

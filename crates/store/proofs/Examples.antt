@@ -1,0 +1,67 @@
+-- The definitions, computed on worked examples of document 01.
+-- Assumes nothing.
+use mathlib.Core.Path.{_≡_, refl}
+use mathlib.Core.Bool.{true, false}
+use mathlib.Core.List.{List, [], _∷_}
+use Prim.Native.Nat.{ℕ}
+use lib.ListN.{replicate}
+use lib.Count.{ones, onesIn}
+use Rattle.octets.specs.Bytes.{part, allBelow, allZero}
+use Rattle.octets.specs.Words.{numbers, words, elem}
+use Rattle.refusal.specs.House.{Answer, house, gives}
+use Rattle.store.specs.Layout.{edition1, editionOf, editionIn}
+use Rattle.store.specs.Store.{Entry, peersOf, header, keyRecord, keyRecords, encode, entries, entriesFrom, sound, allHold, headerOk, countsOk, sumBefore, sumsOk, newKey, uniqueOk, allOdd, parityOk, unusedOk}
+use Rattle.store.specs.Search.{placeWhere, find, findIn}
+use Rattle.store.specs.Request.{Request, add, delete, entities, work, result, firstReason, after, done, updateAt}
+
+-- a key with this serial, byte and peers, valid from 5 to 9
+abbrev entry : ℕ → ℕ → List ℕ → Entry
+entry s b ps = record { issuer = 66051; serial = s; kmac = replicate 24 b; start = 5; end = 9; peers = ps }
+
+one : Entry
+one = entry 7 1 (17 ∷ 4294967295 ∷ [])
+
+-- the empty store
+empty-bytes : encode edition1 [] ≡ 0 ∷ 1 ∷ 0 ∷ 0 ∷ 0 ∷ 12 ∷ 0 ∷ 0 ∷ 11 ∷ 12 ∷ 15 ∷ 12 ∷ replicate 3840 0
+unfolding encode header keyRecords peersOf words
+empty-bytes = refl
+
+sound-two : sound edition1 (encode edition1 (one ∷ entry 8 7 (19 ∷ []) ∷ [])) ≡ true
+unfolding one encode header keyRecord keyRecords peersOf words sound allHold headerOk countsOk sumBefore sumsOk newKey uniqueOk allOdd parityOk unusedOk allBelow allZero part ones onesIn
+sound-two = refl
+
+back : entries edition1 (encode edition1 (one ∷ entry 8 7 (19 ∷ []) ∷ [])) ≡ one ∷ entry 8 7 (19 ∷ []) ∷ []
+unfolding one encode header keyRecord keyRecords peersOf words entries entriesFrom numbers part
+back = refl
+
+unsound-twice : sound edition1 (encode edition1 (one ∷ one ∷ [])) ≡ false
+unfolding one encode header keyRecord keyRecords peersOf words sound allHold headerOk countsOk sumBefore sumsOk newKey uniqueOk allOdd parityOk unusedOk allBelow allZero part ones onesIn
+unsound-twice = refl
+
+-- what a list of requests answers to the own identity 3
+abbrev answers : List Entry → List Request → List ℕ
+answers es rs = work edition1 3 rs es .results
+
+abbrev answered : List (List ℕ)
+answered =
+    answers [] (delete 66051 7 ∷ [])
+    ∷ answers [] (add 3 one ∷ add 3 one ∷ [])
+    ∷ answers (entry 7 1 (replicate 253 5) ∷ []) (add 3 (entry 8 1 (replicate 4 6)) ∷ add 3 (entry 8 1 (replicate 3 6)) ∷ [])
+    ∷ answers (entry 7 1 (replicate 246 5) ∷ entry 8 1 (replicate 10 6) ∷ []) (entities 66051 8 (replicate 10 7) ∷ entities 66051 8 (replicate 11 7) ∷ [])
+    ∷ answers [] (add 3 (entry 7 0 (1 ∷ [])) ∷ add 4 (entry 7 0 (1 ∷ [])) ∷ [])
+    ∷ []
+
+-- empty store, delete: 1; one key twice: 0 then 3; 253 peers used and 4 or 3 more: 255, 0; 256 used and 10 replaced by 10 or 11: 0, 255;
+-- a KMAC byte 00: 4; a wrong recipient and byte 00: 5
+requests-answered : answered ≡ (1 ∷ []) ∷ (0 ∷ 3 ∷ []) ∷ (255 ∷ 0 ∷ []) ∷ (0 ∷ 255 ∷ []) ∷ (4 ∷ 5 ∷ []) ∷ []
+unfolding one work result firstReason after done updateAt placeWhere peersOf allOdd allBelow ones onesIn
+requests-answered = refl
+
+-- what a search for peer 17 at the moment t answers, in a store with one record of this start and end
+abbrev found : ℕ → ℕ → ℕ → Answer
+found a b t = find (encode edition1 (record { issuer = 1; serial = 2; kmac = replicate 24 1; start = a; end = b; peers = 17 ∷ [] } ∷ [])) 17 t
+
+-- T = start fits; T = end does not; start = end never fits
+searched : found 5 9 5 ∷ found 5 9 9 ∷ found 5 5 5 ∷ [] ≡ gives 1 ∷ house 11 ∷ house 11 ∷ []
+unfolding find findIn editionOf editionIn placeWhere elem entries entriesFrom numbers encode header keyRecord keyRecords peersOf words sound allHold headerOk countsOk sumBefore sumsOk newKey uniqueOk allOdd parityOk unusedOk allBelow allZero part ones onesIn
+searched = refl

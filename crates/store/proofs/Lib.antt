@@ -1,0 +1,9 @@
+pub mod EncodingLaws
+pub mod SoundLaws
+pub mod DecodeLaws
+pub mod EncodeLaws
+pub mod WellFormedLaws
+pub mod RequestLaws
+pub mod SearchLaws
+pub mod EmptyLaws
+pub mod Examples

@@ -1,0 +1,161 @@
+-- Laws of the search for a record, and of what `find`, `key` and `empty` answer.
+-- Assumes nothing.
+use mathlib.Core.Path.{_≡_, refl, sym, ap, _∙_, subst}
+use mathlib.Core.Bool.{Bool, true, false}
+use mathlib.Core.List.{List, [], _∷_}
+use Prim.Native.Nat.{ℕ, suc, _+_, _*_, _-_, _≤_, _<_}
+use native.Mathlib.Nat.{add-zero, zero-add, sub-zero}
+use native.Mathlib.Numerals.{add-one}
+use native.Mathlib.Omega.{arith}
+use lib.ListN.{length}
+use lib.Dec.{eqb, ltb}
+use borrow.Author.Tests.{eqb-true, lt-ltb, le-ltb, ltb-true}
+use Rattle.octets.specs.Bytes.{Bytes, part}
+use Rattle.refusal.specs.House.{Answer, house, gives, asks}
+use Rattle.store.specs.Layout.{total, Bounded, editions, pickEdition, editionIn, editionOf}
+use Rattle.store.specs.Store.{Entry, entries, entriesFrom, entryAt, keyCount, first, count, peerCount, sumBefore, sound}
+use Rattle.store.specs.Search.{pickNumber, placeWhere, chosen, placed, findIn, find, keyOf, key}
+use Rattle.store.specs.declared.Limits.{Limits}
+use Rattle.store.specs.declared.Edition.{Edition}
+use Rattle.store.specs.declared.Edition.the-variants.{Known, Unknown}
+use Rattle.store.proofs.SoundLaws.{Sound, sound-says, sound-bounded}
+use Rattle.store.proofs.DecodeLaws.{entries-length, sumFrom, sumBefore-add}
+
+-- ---- editions
+
+unfoldable AllBounded : List Limits → Type 0
+AllBounded [] = Unit {0}
+AllBounded (L ∷ Ls) = Bounded L × AllBounded Ls
+
+editionIn-says : (Ls : List Limits) (n : ℕ) (L : Limits) → AllBounded Ls → editionIn Ls n ≡ Known L → Bounded L × (n ≡ total L)
+unfolding AllBounded editionIn
+editionIn-says [] n L a e = let z : _≡_ {A = ℕ} 0 1 = cc in absurd (omega arith)
+editionIn-says (M ∷ Ls) n L a e = go (editionIn-says Ls n L (a .1)) (eqb n (total M)) refl e
+  where
+    go : (editionIn Ls n ≡ Known L → Bounded L × (n ≡ total L)) → (b : Bool) → eqb n (total M) ≡ b → pickEdition b (Known M) (editionIn Ls n) ≡ Known L
+        → Bounded L × (n ≡ total L)
+    go rest true p q = let m : M ≡ L = cc in (subst Bounded m (a .0), eqb-true n (total M) p ∙ ap total m)
+    go rest false p q = rest q
+
+-- an edition that is known has numbers that fit, and this length
+pub editionOf-says : (n : ℕ) (L : Limits) → editionOf n ≡ Known L → Bounded L × (n ≡ total L)
+unfolding editionOf AllBounded
+editionOf-says n L e = editionIn-says editions n L (record { edition-fits = omega arith; total-fits = omega arith }, tt) e
+
+-- ---- the lengths and counts of a sound store, and of its record i
+
+pub record Framed (L : Limits) (s : List ℕ) : Type 0 where
+  pub size : length s ≡ 12 + 44 * L .keys + 4 * L .peers
+  pub total-fits : 12 + 44 * L .keys + 4 * L .peers < 65536
+  pub keys-fit : keyCount s ≤ L .keys
+  pub peers-fit : peerCount s ≤ L .peers
+
+pub frame : (L : Limits) (s : List ℕ) → Bytes s → sound L s ≡ true → Framed L s
+frame L s b t =
+    let w : Sound L s = sound-says L s t in
+    record { size = w .size; total-fits = sound-bounded L s t b .total-fits; keys-fit = w .keys-fit; peers-fit = w .peers-fit }
+
+pub record Room (L : Limits) (s : List ℕ) (i : ℕ) : Type 0 where
+  pub framed : Framed L s
+  pub counted : i < keyCount s
+  pub inside : first s i + count s i ≤ peerCount s
+
+pub room : (L : Limits) (s : List ℕ) (i : ℕ) → Bytes s → sound L s ≡ true → i < keyCount s → Room L s i
+unfolding sumBefore
+room L s i b t h =
+    let w : Sound L s = sound-says L s t in
+    let r : ℕ = keyCount s - suc i in
+    let n : suc i + r ≡ keyCount s = omega arith in
+    let sum : peerCount s ≡ first s i + count s i + sumFrom s (suc i) r =
+    sym (w .sum) ∙ ap (λ (x : ℕ). sumBefore s x) (sym n) ∙ sumBefore-add s r (suc i)
+    ∙ ap (λ (x : ℕ). x + count s i + sumFrom s (suc i) r) (sym (w .sums i h)) in
+    record { framed = frame L s b t; counted = h; inside = omega arith }
+
+-- ---- the first entry of which p holds: a turn of the loop that looks for it
+
+module _ (p : Entry → Bool) (L : Limits) (s : List ℕ) (n i : ℕ) where
+  place-open : i < n → placeWhere p (entriesFrom L s i (n - i)) ≡ pickNumber (p (entryAt L s i)) 0 (suc (placeWhere p (entriesFrom L s (i + 1) (n - (i + 1)))))
+  unfolding placeWhere entriesFrom
+  place-open h =
+      let e : n - i ≡ suc (n - (i + 1)) = omega arith in
+      ap (λ (x : ℕ). placeWhere p (entriesFrom L s i x)) e
+      ∙ ap (λ (x : ℕ). pickNumber (p (entryAt L s i)) 0 (suc (placeWhere p (entriesFrom L s x (n - (i + 1)))))) (sym (add-one i))
+
+  pub place-turn : i < n → p (entryAt L s i) ≡ false → i + placeWhere p (entriesFrom L s i (n - i)) ≡ i + 1 + placeWhere p (entriesFrom L s (i + 1) (n - (i + 1)))
+  place-turn h f =
+      let r : ℕ = placeWhere p (entriesFrom L s (i + 1) (n - (i + 1))) in
+      ap (λ (x : ℕ). i + x) (place-open h ∙ ap (λ (x : Bool). pickNumber x 0 (suc r)) f) ∙ omega arith
+
+  pub place-here : i < n → p (entryAt L s i) ≡ true → i + placeWhere p (entriesFrom L s i (n - i)) ≡ i
+  place-here h f =
+      let r : ℕ = placeWhere p (entriesFrom L s (i + 1) (n - (i + 1))) in
+      ap (λ (x : ℕ). i + x) (place-open h ∙ ap (λ (x : Bool). pickNumber x 0 (suc r)) f) ∙ add-zero i
+
+  pub place-end : n ≤ i → i + placeWhere p (entriesFrom L s i (n - i)) ≡ i
+  unfolding placeWhere entriesFrom
+  place-end h = let e : n - i ≡ 0 = omega arith in ap (λ (x : ℕ). i + placeWhere p (entriesFrom L s i x)) e ∙ add-zero i
+
+pub place-start : (p : Entry → Bool) (L : Limits) (s : List ℕ) (n : ℕ) → n ≡ keyCount s → placeWhere p (entries L s) ≡ 0 + placeWhere p (entriesFrom L s 0 (n - 0))
+unfolding entries
+place-start p L s n e =
+    ap (λ (x : ℕ). placeWhere p (entriesFrom L s 0 x)) (sym e ∙ sym (sub-zero n)) ∙ sym (zero-add (placeWhere p (entriesFrom L s 0 (n - 0))))
+
+-- ---- find
+
+module _ (L : Limits) (s : List ℕ) (peer t : ℕ) where
+  pub find-unsound : sound L s ≡ false → findIn (Known L) s peer t ≡ house 12
+  unfolding findIn
+  find-unsound h = rw h
+
+  module _ (h : sound L s ≡ true) (i : ℕ) (e : i ≡ chosen peer t (entries L s)) where
+    opened : findIn (Known L) s peer t ≡ placed i (keyCount s)
+    unfolding findIn
+    opened = rw h (ap (λ (x : ℕ). placed x (length (entries L s))) (sym e) ∙ ap (placed i) (entries-length L s))
+
+    pub find-at : i < keyCount s → findIn (Known L) s peer t ≡ gives (i + 1)
+    find-at l = opened ∙ ap (λ (x : Bool). asks x 11 (gives (suc i))) (lt-ltb i (keyCount s) l) ∙ ap gives (sym (add-one i))
+
+    pub find-none : keyCount s ≤ i → findIn (Known L) s peer t ≡ house 11
+    find-none l = opened ∙ ap (λ (x : Bool). asks x 11 (gives (suc i))) (le-ltb i (keyCount s) l)
+
+-- the place that find gives lies in the store, and the key stands there
+pub record Placed (s : List ℕ) (peer t p : ℕ) : Type 0 where
+  pub from-one : 0 < p
+  pub inside : 12 + 44 * (p - 1) + 44 ≤ length s
+  pub key-is : key s peer t ≡ part s (12 + 44 * (p - 1) + 8) 24
+
+module _ (s : List ℕ) (peer t p : ℕ) where
+  no-place : {A : Type 0} (n : ℕ) → house n ≡ gives p → A
+  no-place n e = let z : _≡_ {A = ℕ} 0 1 = cc in absurd (omega arith)
+
+  key-at : (i : ℕ) → suc i ≡ p → keyOf (gives p) s ≡ part s (12 + 44 * (p - 1) + 8) 24
+  key-at i e =
+      let f : i ≡ p - 1 = omega arith in
+      ap (λ (x : ℕ). keyOf (gives x) s) (sym e) ∙ ap (λ (x : ℕ). part s (12 + 44 * x + 8) 24) f
+
+  pub find-placed : find s peer t ≡ gives p → Placed s peer t p
+  unfolding find findIn key
+  find-placed e = known (editionOf (length s)) refl e
+    where
+      at-place : (L : Limits) (i n : ℕ) (b : Bool) → sound L s ≡ true → n ≡ keyCount s → ltb i n ≡ b → asks b 11 (gives (suc i)) ≡ gives p → Placed s peer t p
+      at-place L i n true h en l q =
+          let w : Sound L s = sound-says L s h in
+          let f : suc i ≡ p = cc in
+          let k : i < n = ltb-true i n l in
+          let nK : keyCount s ≤ L .keys = w .keys-fit in
+          let size : length s ≡ 12 + 44 * L .keys + 4 * L .peers = w .size in
+          record { from-one = omega arith; inside = omega arith; key-is = ap (λ (x : Answer). keyOf x s) e ∙ key-at i f }
+      at-place L i n false h en l q = no-place 11 q
+
+      soundly : (L : Limits) (b : Bool) → sound L s ≡ b → asks b 12 (placed (chosen peer t (entries L s)) (length (entries L s))) ≡ gives p → Placed s peer t p
+      soundly L true h q =
+          at-place L (chosen peer t (entries L s)) (length (entries L s)) (ltb (chosen peer t (entries L s)) (length (entries L s))) h (entries-length L s) refl q
+      soundly L false h q = no-place 12 q
+
+      known : (E : Edition) → editionOf (length s) ≡ E → findIn E s peer t ≡ gives p → Placed s peer t p
+      known Unknown h q = no-place 1 q
+      known (Known L) h q = soundly L (sound L s) refl q
+
+pub key-none : (s : List ℕ) (peer t n : ℕ) → find s peer t ≡ house n → key s peer t ≡ []
+unfolding key
+key-none s peer t n e = ap (λ (x : Answer). keyOf x s) e

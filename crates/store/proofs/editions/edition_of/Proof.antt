@@ -1,0 +1,23 @@
+-- `store::editions::edition_of` meets its contract.
+-- Assumes nothing.
+use lib.ListN.{length}
+use Prim.Native.Nat.{_-_}
+use borrow.Author.Tests.{eq-eqb, ne-eqb}
+use Rattle.store.specs.Layout.{editionOf, editionIn}
+use Rattle.store.proofs.editions.edition_of.Statement.{statement}
+use Rattle.store.proofs.editions.edition_of.Tie as tie
+
+returns : tie.Need-returns
+unfolding editionOf editionIn
+returns c =
+    let start = c .before in
+    simp (eq-eqb (start .args .length) 3852 (c .if1 .taken))
+
+returns-2 : tie.Need-returns-2
+unfolding editionOf editionIn
+returns-2 c =
+    let start = c .before in
+    simp (ne-eqb (start .args .length) 3852 (c .if1 .left))
+
+pub edition-of-spec : {M : Type 1} → statement M
+edition-of-spec = tie.close (tie.spec returns returns-2)

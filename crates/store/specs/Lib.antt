@@ -1,0 +1,5 @@
+pub mod Layout
+pub mod Store
+pub mod Search
+pub mod Request
+pub mod WellFormed
