@@ -1,0 +1,12 @@
+pub mod RangeLaws
+pub mod EntryLaws
+pub mod RequestLaws
+pub mod ReadableLaws
+pub mod MessageLaws
+pub mod BytesLaws
+pub mod StoreLaws
+pub mod TwinLaws
+pub mod StepLaws
+pub mod Theorem
+pub mod Starred
+pub mod Witness

@@ -1,0 +1,87 @@
+-- Demand 3, proved: two lists of alike calls, call by call.
+-- Assumes nothing.
+use mathlib.Core.Path.{_≡_, refl, ap, _∙_, subst}
+use mathlib.Core.Bool.{true, false}
+use mathlib.Core.List.{List, _∷_}
+use Prim.Native.Nat.{ℕ}
+use lib.ListN.{length}
+use Rattle.octets.proofs.BoolLaws.{clash}
+use Rattle.refusal.specs.House.{Answer}
+use Rattle.store.specs.declared.Limits.{Limits}
+use Rattle.store.specs.declared.Edition.{Edition}
+use Rattle.store.specs.declared.Edition.the-variants.{Known, Unknown}
+use Rattle.store.specs.Layout.{editionOf}
+use Rattle.store.specs.Store.{sound}
+use Rattle.store.specs.Search.{find, key}
+use Rattle.session.specs.declared.Session.{Session}
+use Rattle.session.specs.Sessions.{Beginning, begin, beginOutput}
+use Rattle.session.specs.Rules.{Answered, Outcome, receive}
+use Rattle.runs.specs.Calls.{Call, starts, brings, World, Seen, begun, received, searched, replyOf, seen, sessionOf, next, allSeen, final}
+use Rattle.runs.specs.Alike.{AlikeCalls, no-calls, alike-begin, alike-message, alike-search, soundIn, heldIn}
+use Rattle.runs.specs.Tally.{Tag, tags, tallied, tally}
+use Rattle.runs.specs.Secrecy.{Secrecy}
+use Rattle.runs.proofs.TwinLaws.{Twins, alike-twins, twins-alike, twins-told, twins-equal, find-same, key-size}
+use Rattle.runs.proofs.StepLaws.{SameStep, receive-same}
+
+record SameRun (L : Limits) (cs cs' : List Call) (ts : List Tag) (w w' : World) : Type 0 where
+  seen-is : allSeen cs w ≡ allSeen cs' w'
+  session-is : final cs w .session ≡ final cs' w' .session
+  twins : Twins L (tally cs cs' (allSeen cs w) ts) (final cs w .store) (final cs' w' .store)
+
+run-same : {cs cs' : List Call} → AlikeCalls cs cs' → (L : Limits) (ts : List Tag) (w w' : World) → w .session ≡ w' .session → Twins L ts (w .store) (w' .store)
+    → SameRun L cs cs' ts w w'
+unfolding allSeen final tally seen next tallied
+run-same no-calls L ts w w' q v = record { seen-is = refl; session-is = q; twins = v }
+run-same (alike-begin {cs = cs} {cs' = cs'} own peer start out r) L ts w w' q v =
+    let c : Call = starts own peer start out in
+    let b : Beginning = begin own peer start out in
+    let k : SameRun L cs cs' ts (next c w) (next c w') = run-same r L ts (next c w) (next c w') (ap (sessionOf b) q) v in
+    record { seen-is = ap (λ (l : List Seen). begun b (beginOutput b own peer start out) ∷ l) (k .seen-is); session-is = k .session-is; twins = k .twins }
+run-same (alike-message {cs = cs} {cs' = cs'} m m' out x r) L ts w w' q v =
+    let o : Outcome = receive (w .session) m (w .store) out in
+    let o' : Outcome = receive (w' .session) m' (w' .store) out in
+    let t : SameStep L m m' ts o o' =
+    subst (λ (e : Session). SameStep L m m' ts o (receive e m' (w' .store) out)) q (receive-same L m m' ts x (w .session) (w .store) (w' .store) out v) in
+    let k = run-same r L _ (next (brings m out) w) (next (brings m' out) w') (t .session-is) (t .twins) in
+    record {
+      seen-is =
+          ap (λ (a : Answered). received a (replyOf a (o .output)) (o .output) ∷ allSeen cs (next (brings m out) w)) (t .answer-is)
+          ∙ ap (λ (u : List ℕ). received (o' .answer) (replyOf (o' .answer) u) u ∷ allSeen cs (next (brings m out) w)) (t .output-is)
+          ∙ ap (λ (l : List Seen). received (o' .answer) (replyOf (o' .answer) (o' .output)) (o' .output) ∷ l) (k .seen-is);
+      session-is = k .session-is;
+      twins = k .twins;
+    }
+run-same (alike-search {cs = cs} {cs' = cs'} peer t r) L ts w w' q v =
+    let s : List ℕ = w .store in
+    let s' : List ℕ = w' .store in
+    let k : SameRun L cs cs' ts w w' = run-same r L ts w w' q v in
+    record {
+      seen-is =
+          ap (λ (a : Answer). searched a (length (key s peer t)) ∷ allSeen cs w) (find-same L v peer t)
+          ∙ ap (λ (n : ℕ). searched (find s' peer t) n ∷ allSeen cs w) (key-size L v peer t)
+          ∙ ap (λ (l : List Seen). searched (find s' peer t) (length (key s' peer t)) ∷ l) (k .seen-is);
+      session-is = k .session-is;
+      twins = k .twins;
+    }
+
+-- the edition of a sound store
+sound-edition : (E : Edition) (s : List ℕ) → soundIn E s ≡ true → (L : Limits) × (E ≡ Known L) × (sound L s ≡ true)
+sound-edition Unknown s h = clash false h refl
+sound-edition (Known L) s h = (L, refl, h)
+
+pub secrecy : Secrecy
+secrecy =
+    record {
+      runs = λ cs cs' w w' q a c.
+          let p = sound-edition (editionOf (length (w .store))) (w .store) (a .sound) in
+          let L : Limits = p .0 in
+          let ts : List Tag = tags (heldIn (w .store)) (heldIn (w' .store)) in
+          let k : SameRun L cs cs' ts w w' = run-same c L ts w w' q (alike-twins L (w .store) (w' .store) a (p .1) (p .2)) in
+          record {
+            same-seen = k .seen-is;
+            same-session = k .session-is;
+            alike-stores = twins-alike L (k .twins);
+            told = twins-told L (k .twins);
+            no-trace = twins-equal L (k .twins);
+          };
+    }

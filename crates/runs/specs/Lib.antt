@@ -1,0 +1,5 @@
+pub mod Calls
+pub mod Alike
+pub mod Tally
+pub mod Secrecy
+pub mod Starred

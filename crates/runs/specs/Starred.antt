@@ -1,0 +1,97 @@
+-- Document 01's numbers to work by hand: those marked *, as one list.
+-- Assumes nothing.
+use mathlib.Core.List.{List, [], _∷_, _++_}
+use mathlib.Core.Bool.{Bool, true, _&&_}
+use Prim.Native.Nat.{ℕ, _+_}
+use lib.ListN.{length, replicate, drop}
+use Rattle.octets.specs.Bytes.{be16, be32, same}
+use Rattle.octets.specs.Words.{words}
+use Rattle.refusal.specs.House.{Answer, house, gives}
+use Rattle.store.specs.Layout.{edition1}
+use Rattle.store.specs.Store.{Entry, encode}
+use Rattle.store.specs.Search.{find}
+use Rattle.message.specs.Written.{header}
+use Rattle.session.specs.declared.Session.{Session}
+use Rattle.session.specs.Rules.{Outcome, receive}
+use Rattle.runs.specs.Calls.{replyOf}
+
+-- ---- what is sent
+
+-- an open session of 1 with 2 that expects number n
+abbrev pub expecting : ℕ → Session
+expecting n = record { state = 2; own = 1; peer = 2; next = 7; expected = n }
+
+abbrev pub from2to1 : ℕ → ℕ → List ℕ → List ℕ
+from2to1 n type body = header (20 + length body) 1 2 9 n type ++ body
+
+abbrev pub kStruct : ℕ → ℕ → ℕ → List ℕ → List ℕ → List ℕ
+kStruct issuer serial recipient kmac peers =
+    24 ∷ be32 issuer ++ (be32 serial ++ (be32 recipient ++ (kmac ++ (be16 (length peers) ++ (words peers ++ (be32 10 ++ be32 20))))))
+
+-- a KMAC of odd parity, and one whose first byte is 00
+abbrev pub key : List ℕ
+key = replicate 24 1
+
+abbrev pub key0 : List ℕ
+key0 = 0 ∷ replicate 23 1
+
+abbrev pub holding : ℕ → ℕ → ℕ → List ℕ → Entry
+holding serial a b peers = record { issuer = 3; serial = serial; kmac = key; start = a; end = b; peers = peers }
+
+-- ---- what comes back
+
+abbrev pub outcome : List Entry → ℕ → List ℕ → Outcome
+outcome es n m = receive (expecting n) m (encode edition1 es) (replicate 1032 0)
+
+-- RESPONSE, REQ-NUM and RESULTs
+abbrev pub says : List Entry → ℕ → List ℕ → List ℕ
+says es n m = drop 20 (replyOf (outcome es n m .answer) (outcome es n m .output))
+
+abbrev pub expects : List Entry → ℕ → List ℕ → List ℕ
+expects es n m = outcome es n m .session .expected ∷ []
+
+-- the place, or 0 and the refusal's number
+abbrev pub placeOf : Answer → List ℕ
+placeOf (gives n) = n ∷ []
+placeOf (house n) = 0 ∷ n ∷ []
+
+abbrev pub finds : List Entry → ℕ → ℕ → List ℕ
+finds es peer t = placeOf (find (encode edition1 es) peer t)
+
+-- ---- the list
+
+-- what is computed, and what the paper says
+pub data Example : Type 0 where
+  _is_ : List ℕ → List ℕ → Example
+
+infix 10 _is_
+unfoldable pub hold : List Example → Bool
+hold [] = true
+hold (_is_ a b ∷ xs) = same a b && hold xs
+
+unfoldable pub starred : List Example
+starred =
+    -- empty store, delete: 1
+    (says [] 5 (from2to1 5 1 (be16 1 ++ (be32 3 ++ be32 4))) is (0 ∷ 0 ∷ 1 ∷ 1 ∷ []))
+    -- one key twice in a message: 0 then 3
+    ∷ (says [] 5 (from2to1 5 0 (be16 2 ++ (kStruct 3 4 1 key (8 ∷ []) ++ kStruct 3 4 1 key (8 ∷ [])))) is (0 ∷ 0 ∷ 2 ∷ 0 ∷ 3 ∷ []))
+    -- 253 peers used: add with 4 gives 255, with 3 gives 0
+    ∷ (says (holding 4 1 2 (replicate 253 8) ∷ []) 5 (from2to1 5 0 (be16 1 ++ kStruct 3 5 1 key (replicate 4 8))) is (0 ∷ 0 ∷ 1 ∷ 255 ∷ []))
+    ∷ (says (holding 4 1 2 (replicate 253 8) ∷ []) 5 (from2to1 5 0 (be16 1 ++ kStruct 3 5 1 key (replicate 3 8))) is (0 ∷ 0 ∷ 1 ∷ 0 ∷ []))
+    -- 256 used: replacing 10 by 10 gives 0, by 11 gives 255
+    ∷ (says (holding 4 1 2 (replicate 246 8) ∷ holding 5 1 2 (replicate 10 8) ∷ []) 5 (from2to1 5 4 (be16 1 ++ (be32 3 ++ (be32 5 ++ (be16 10 ++ words (replicate 10 9))))))
+    is (0 ∷ 0 ∷ 1 ∷ 0 ∷ []))
+    ∷ (says (holding 4 1 2 (replicate 246 8) ∷ holding 5 1 2 (replicate 10 8) ∷ []) 5 (from2to1 5 4 (be16 1 ++ (be32 3 ++ (be32 5 ++ (be16 11 ++ words (replicate 11 9))))))
+    is (0 ∷ 0 ∷ 1 ∷ 255 ∷ []))
+    -- KMAC byte 00: 4; wrong recipient and byte 00: 5
+    ∷ (says [] 5 (from2to1 5 0 (be16 1 ++ kStruct 3 4 1 key0 (8 ∷ []))) is (0 ∷ 0 ∷ 1 ∷ 4 ∷ []))
+    ∷ (says [] 5 (from2to1 5 0 (be16 1 ++ kStruct 3 4 2 key0 (8 ∷ []))) is (0 ∷ 0 ∷ 1 ∷ 5 ∷ []))
+    -- T = start fits; T = end does not; start = end never fits
+    ∷ (finds (holding 4 10 20 (8 ∷ []) ∷ []) 8 10 is (1 ∷ []))
+    ∷ (finds (holding 4 10 20 (8 ∷ []) ∷ []) 8 20 is (0 ∷ 11 ∷ []))
+    ∷ (finds (holding 4 10 10 (8 ∷ []) ∷ []) 8 10 is (0 ∷ 11 ∷ []))
+    -- expected 65,535, received 65,535: next expected is 0
+    ∷ (expects [] 65535 (from2to1 65535 1 (be16 1 ++ (be32 3 ++ be32 4))) is (0 ∷ []))
+    -- length and receiver both wrong: 2
+    ∷ (says [] 5 (header 21 9 2 9 5 2) is (2 ∷ 0 ∷ 0 ∷ []))
+    ∷ []

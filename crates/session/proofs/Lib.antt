@@ -1,0 +1,5 @@
+pub mod HeaderLaws
+pub mod SessionLaws
+pub mod OutcomeLaws
+pub mod RuleLaws
+pub mod Theorems

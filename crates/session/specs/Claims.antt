@@ -1,0 +1,26 @@
+-- What is claimed of messages beside the contracts. proofs/Theorems.antt has a proof of each claim.
+-- Assumes nothing.
+use mathlib.Core.Path.{_≡_}
+use mathlib.Core.List.{List}
+use Prim.Native.Nat.{ℕ, _<_}
+use lib.ListN.{length, getD, take}
+use Rattle.message.specs.Header.{messageLength}
+use Rattle.session.specs.declared.Session.{Session}
+use Rattle.session.specs.Sessions.{begin, refuses, beginOutput}
+use Rattle.session.specs.Rules.{receive, reply, refused}
+
+-- demand 1: a refusal writes to no lent buffer
+pub record RefusalWritesNothing : Type 0 where
+  pub of-begin : (own peer start : ℕ) (out : List ℕ) (n : ℕ) → begin own peer start out ≡ refuses n → beginOutput (begin own peer start out) own peer start out ≡ out
+  pub of-store : (e : Session) (m s out : List ℕ) (n : ℕ) → receive e m s out .answer ≡ refused n → receive e m s out .store ≡ s
+  pub of-output : (e : Session) (m s out : List ℕ) (n : ℕ) → receive e m s out .answer ≡ refused n → receive e m s out .output ≡ out
+
+-- demand 1: a message answered with RESPONSE other than 0 (byte 20 of the reply) changes no byte of the store
+pub record OnlyZeroChangesStore : Type 0 where
+  pub kept : (e : Session) (m s out : List ℕ) (n : ℕ) → receive e m s out .answer ≡ reply n → (getD (receive e m s out .output) 20 0 ≡ 0 → ⊥)
+      → receive e m s out .store ≡ s
+
+-- a torn message leaves the store: one whose length field is not its length, and any proper prefix of a message whose length field is right
+pub record TornLeavesStore : Type 0 where
+  pub wrong-length : (e : Session) (m s out : List ℕ) → (messageLength m ≡ length m → ⊥) → receive e m s out .store ≡ s
+  pub prefix : (e : Session) (m s out : List ℕ) (k : ℕ) → k < length m → messageLength m ≡ length m → receive e (take k m) s out .store ≡ s

@@ -1,0 +1,4 @@
+pub mod Sessions
+pub mod Rules
+pub mod Parts
+pub mod Claims
