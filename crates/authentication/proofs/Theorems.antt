@@ -20,7 +20,7 @@ use Rattle.refusal.proofs.Laws.{asks-gives, gives-number}
 use Rattle.authentication.specs.Mac.{mac}
 use Rattle.authentication.specs.Keys.{odd, ks1, ks2, ks3, sessionKeys}
 use Rattle.authentication.specs.Unit.{header, message, unitOf, between, built, buffer, body, macOf, rightHeader, rightContents, checked, dataOf}
-use Rattle.authentication.specs.Claims.{Accepts, IsBuilt, AcceptedExactlyBuilt, WrittenAccepted, OddParity}
+use Rattle.authentication.specs.Claims.{Accepts, IsBuilt, AcceptedExactlyBuilt, WrittenAccepted, RefusedBuildWritesNothing, OddParity}
 use Rattle.authentication.proofs.KeyLaws.{odd-ones, odd-high}
 use Rattle.authentication.proofs.UnitLaws.{between-true, header-only, header-right, take-first, length-unit, body-unit, mac-unit, data-unit, first-unit}
 use Rattle.authentication.proofs.AnswerLaws.{Passed, passed, all-right}
@@ -114,6 +114,10 @@ written-accepted =
           ap (λ (k : Answer). take n (buffer k u out)) e ∙ splice-front out u n (length-unit key destination direction d ∙ b .number) in
           subst (λ (l : List ℕ). Accepts l key destination direction d) (sym w) (unit-accepted key destination direction d (b .triple) (b .range .0) (b .range .1));
     }
+
+pub refused-build-writes-nothing : RefusedBuildWritesNothing
+refused-build-writes-nothing =
+    record { kept = λ key destination direction user out n e. ap (λ (k : Answer). buffer k (unitOf key destination direction user) out) e }
 
 -- ---- parity
 

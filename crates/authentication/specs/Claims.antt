@@ -6,7 +6,7 @@ use mathlib.Core.List.{List}
 use Prim.Native.Nat.{ℕ, _/_, _%_, _≤_, _<_}
 use lib.Count.{ones}
 use lib.ListN.{length, getD, take}
-use Rattle.refusal.specs.House.{gives}
+use Rattle.refusal.specs.House.{house, gives}
 use Rattle.authentication.specs.Keys.{odd, sessionKeys}
 use Rattle.authentication.specs.Unit.{unitOf, built, buffer, checked, dataOf}
 
@@ -31,6 +31,11 @@ pub record AcceptedExactlyBuilt : Type 0 where
 pub record WrittenAccepted : Type 0 where
   pub back : (key destination : List ℕ) (direction : Bool) (d out : List ℕ) (n : ℕ) → built key d out ≡ gives n
       → Accepts (take n (buffer (built key d out) (unitOf key destination direction d) out)) key destination direction d
+
+-- demand 1: a refused build writes nothing
+pub record RefusedBuildWritesNothing : Type 0 where
+  pub kept : (key destination : List ℕ) (direction : Bool) (user out : List ℕ) (n : ℕ) → built key user out ≡ house n
+      → buffer (built key user out) (unitOf key destination direction user) out ≡ out
 
 -- every byte of the session keys has odd parity, by its lowest bit alone
 pub record OddParity : Type 0 where

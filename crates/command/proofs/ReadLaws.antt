@@ -1,4 +1,4 @@
--- Requests read from a message: their sizes, and that their fields fit.
+-- Requests read from a message: their sizes, and the fields of a K-STRUCT.
 -- Assumes nothing.
 use mathlib.Core.Path.{_≡_, sym, _∙_, subst}
 use mathlib.Core.Bool.{true}
@@ -6,18 +6,14 @@ use mathlib.Core.List.{List}
 use Prim.Native.Nat.{ℕ, _+_, _*_, _≤_}
 use native.Mathlib.Omega.{arith}
 use lib.ListN.{length}
-use Rattle.octets.specs.Bytes.{Bytes, get32}
-use Rattle.octets.specs.Words.{numbers}
-use Rattle.octets.proofs.PartLaws.{part-length, bytes-part}
-use Rattle.octets.proofs.WordLaws.{get32-fits, numbers-fit}
+use Rattle.octets.specs.Bytes.{get32}
 use Rattle.store.specs.declared.Limits.{Limits}
 use Rattle.store.specs.Request.{Request}
-use Rattle.store.specs.WellFormed.{Readable, Words}
 use Rattle.requests.specs.Worked.{Worked, addition}
 use Rattle.message.specs.declared.Command.{Command}
-use Rattle.message.specs.declared.Command.the-variants.{Adds, Deletes, Validities, Entities}
+use Rattle.message.specs.declared.Command.the-variants.{Adds}
 use Rattle.message.specs.declared.Sized.the-variants.{Size, Bad}
-use Rattle.message.specs.Body.{sized, sizeAt, fieldsOk, requestAt, addCount, periodAt, entitiesCount}
+use Rattle.message.specs.Body.{sized, sizeAt, fieldsOk, requestAt, addCount}
 use Rattle.message.proofs.BodyLaws.{size-right}
 
 -- ---- the size of a request that stands
@@ -45,24 +41,3 @@ pub addition-is : (m : List ℕ) (i issuer serial recipient count start end : �
     → addition (record { issuer = issuer; serial = serial; recipient = recipient; kmac = i + 13; peers = i + 39; count = count; start = start; end = end }) m ≡ requestAt Adds m i
 unfolding requestAt
 addition-is m i issuer serial recipient count start end e1 e2 e3 e4 e5 e6 = rw (e5, e6, e1, e2, e3, e4)
-
--- ---- the fields of a request fit
-
-words-of : (m : List ℕ) → Bytes m → (i n : ℕ) → Words (numbers m i n)
-words-of m b i n = record { fit = λ k h. numbers-fit m b n i k }
-
-pub readable : (k : Command) (m : List ℕ) (i : ℕ) → Bytes m → i + sizeAt k m i ≤ length m → Readable (requestAt k m i)
-unfolding requestAt Readable sizeAt
-readable Adds m i b h =
-    record {
-      issuer-fits = get32-fits m b (i + 1);
-      serial-fits = get32-fits m b (i + 5);
-      start-fits = get32-fits m b (periodAt m i);
-      end-fits = get32-fits m b (periodAt m i + 4);
-      kmac-long = part-length m (i + 13) 24 (omega arith);
-      kmac-bytes = bytes-part m b (i + 13) 24;
-      peers-fit = words-of m b (i + 39) (addCount m i);
-    }
-readable Deletes m i b h = tt
-readable Validities m i b h = (get32-fits m b (i + 8), get32-fits m b (i + 12))
-readable Entities m i b h = words-of m b (i + 10) (entitiesCount m i)

@@ -8,9 +8,8 @@ use native.Mathlib.Nat.{add-assoc, sub-zero}
 use native.Mathlib.Omega.{arith}
 use lib.Dec.{leb}
 use lib.ListN.{length, set}
-use borrow.Author.Tests.{leb-true}
 use Rattle.octets.specs.Bytes.{Bytes, splice}
-use Rattle.octets.proofs.BoolLaws.{and-left, and-right}
+use Rattle.octets.proofs.BoolLaws.{and-left}
 use Rattle.octets.proofs.SpliceLaws.{splice-none, splice-splice, set-splice}
 use Rattle.store.specs.declared.Limits.{Limits}
 use Rattle.store.specs.Layout.{Bounded}
@@ -23,9 +22,9 @@ use Rattle.store.proofs.WellFormedLaws.{sound-wellFormed}
 use Rattle.store.proofs.RequestLaws.{after-wellFormed}
 use Rattle.requests.specs.Worked.{Worked}
 use Rattle.message.specs.declared.Command.{Command}
+use Rattle.message.proofs.ReadableLaws.{fields-fit, fields-rest, readable-at}
 use Rattle.message.specs.Body.{sizeAt, fieldsOk, fieldsFrom, requestAt, requestsFrom}
 use Rattle.command.specs.Works.{Works}
-use Rattle.command.proofs.ReadLaws.{readable}
 
 -- a RESULT written in front of those that are to come
 splice-one : (d : List ℕ) (i x : ℕ) (v : List ℕ) → i + suc (length v) ≤ length d → splice d i (x ∷ v) ≡ splice (set d i x) (i + 1) v
@@ -79,26 +78,22 @@ module _ (L : Limits) (own : ℕ) (k : Command) (m : List ℕ) where
       unfolding fieldsFrom
       next-ok = and-left (fieldsOk k m i) (leb (i + sizeAt k m i) (length m) && fieldsFrom k m (i + sizeAt k m i) left) next
 
-      rest : (leb (i + sizeAt k m i) (length m) && fieldsFrom k m (i + sizeAt k m i) left) ≡ true
-      unfolding fieldsFrom
-      rest = and-right (fieldsOk k m i) (leb (i + sizeAt k m i) (length m) && fieldsFrom k m (i + sizeAt k m i) left) next
-
       pub next-fits : i + sizeAt k m i ≤ length m
-      next-fits = leb-true (i + sizeAt k m i) (length m) (and-left (leb (i + sizeAt k m i) (length m)) (fieldsFrom k m (i + sizeAt k m i) left) rest)
+      next-fits = fields-fit k m left i next
 
       pub going-turn : Bounded L → Bytes m → length out ≡ length out₀ → 23 + n ≤ length out₀ → (size r : ℕ) (t : List ℕ) → size ≡ sizeAt k m i
           → Worked L own (requestAt k m i) s t r → Going (i + size) (j + 1) t (set out (23 + j) r)
       unfolding work requestsFrom left
       going-turn bd b lo ho size r t es q =
           let a : List Entry = after L own (requestAt k m i) (entries L s) in
-          let g : WellFormed L a = after-wellFormed L own (entries L s) (w .well) (requestAt k m i) (readable k m i b next-fits) in
+          let g : WellFormed L a = after-wellFormed L own (entries L s) (w .well) (requestAt k m i) (readable-at k m b i next-fits) in
           let ee : entries L t ≡ a = ap (entries L) (q .store-is) ∙ entries-encode L a bd g in
           let v : List ℕ = workFrom (i + sizeAt k m i) left a .results in
           let lv : length v ≡ left = results-length left (i + sizeAt k m i) a in
           record {
             well = subst (WellFormed L) (sym ee) g;
             whole = q .store-is ∙ ap (encode L) (sym ee);
-            fields = ap (λ (x : ℕ). fieldsFrom k m (i + x) left) es ∙ and-right (leb (i + sizeAt k m i) (length m)) (fieldsFrom k m (i + sizeAt k m i) left) rest;
+            fields = ap (λ (x : ℕ). fieldsFrom k m (i + x) left) es ∙ fields-rest k m left i next;
             to-store = w .to-store ∙ ap (λ (x : ℕ). workFrom i x (entries L s) .left) step
                 ∙ ap (λ (x : List Entry). workFrom (i + sizeAt k m i) left x .left) (sym ee)
                 ∙ ap (λ (x : ℕ). workFrom (i + x) left (entries L t) .left) (sym es);

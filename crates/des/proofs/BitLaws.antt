@@ -62,9 +62,6 @@ pub one-bit : (b : ℕ) → b < 2 → bits 1 b ≡ b ∷ []
 unfolding bits
 one-bit b h = ap (λ (n : ℕ). n ∷ []) (omega arith)
 
-pub more-bits : (n r b : ℕ) → b < 2 → bits (n + 1) (r * 2 + b) ≡ bits n r ++ b ∷ []
-more-bits n r b h = join-bits n 1 r b h ∙ ap (λ (t : List ℕ). bits n r ++ t) (one-bit b h)
-
 -- `xor` is the sum modulo 2 of each bit
 xor-digit : (x y : ℕ) → bitXor x y % 2 ≡ (x % 2 + y % 2) % 2
 xor-digit x y = omega (arith, xor-add-and x y)

@@ -57,10 +57,6 @@ size-fits k m at s e =
     let w = size-says (fieldsOk k m at && leb (at + sizeAt k m at) (length m)) (sizeAt k m at) s e in
     subst (λ (x : ℕ). at + x ≤ length m) (w .1) (leb-true (at + sizeAt k m at) (length m) (and-right (fieldsOk k m at) (leb (at + sizeAt k m at) (length m)) (w .0)))
 
-pub size-is : (k : Command) (m : List ℕ) (at s : ℕ) → sized k m at ≡ Size s → sizeAt k m at ≡ s
-unfolding sized sizeIf
-size-is k m at s e = size-says (fieldsOk k m at && leb (at + sizeAt k m at) (length m)) (sizeAt k m at) s e .1
-
 three : (a b c : Bool) → (a && b) ≡ true → (a && (b && c)) ≡ c
 three true true c e = refl
 three true false c e = clash false e refl

@@ -41,12 +41,6 @@ one-number g h e = sym (back g) ∙ ap named e ∙ back h
 
 -- ---- tests in a row
 
-pub asks-false : (b : Bool) (n : ℕ) (a : Answer) → b ≡ false → house n ≡ asks b n a
-asks-false b n a e = rw e
-
-pub asks-true : (b : Bool) (n : ℕ) {a c : Answer} → b ≡ true → c ≡ a → c ≡ asks b n a
-asks-true b n e f = rw e f
-
 -- what gives a number has passed the test
 pub asks-gives : (b : Bool) (n : ℕ) (a : Answer) (m : ℕ) → asks b n a ≡ gives m → (b ≡ true) × (a ≡ gives m)
 asks-gives true n a m e = (refl, e)

@@ -17,7 +17,38 @@ use Rattle.store.specs.Request.{removeAt, updateAt}
 use Rattle.store.specs.declared.Limits.{Limits}
 use Rattle.store.proofs.EncodingLaws.{LongKeys, peersOf-append, keyRecords-append, encode-as}
 use Rattle.store.proofs.SoundLaws.{Sound, sound-says, sound-bounded}
+use Rattle.store.proofs.SearchLaws.{Room}
+use Rattle.requests.specs.declared.Counts.{Counts}
+use Rattle.requests.specs.Edit.{Counted}
 use Rattle.store.proofs.DecodeLaws.{entriesFrom-length, entriesFrom-split, entriesFrom-long, peers-before, peers-length, encode-entries}
+
+-- the counts of a sound store and of its record i, as they were read
+pub record Fit (L : Limits) (s : List ℕ) (i : ℕ) (q : Counts) : Type 0 where
+  pub size : length s ≡ 12 + 44 * L .keys + 4 * L .peers
+  pub total-fits : 12 + 44 * L .keys + 4 * L .peers < 65536
+  pub place : i < q .keys
+  pub keys-fit : q .keys ≤ L .keys
+  pub inside : q .first + q .count ≤ q .peers
+  pub peers-fit : q .peers ≤ L .peers
+
+pub fit : (L : Limits) (s : List ℕ) (i : ℕ) (q : Counts) → Room L s i → Counted s i q → Fit L s i q
+fit L s i q r c =
+    let keys : q .keys ≡ keyCount s = c .keys-are in
+    let peers : q .peers ≡ peerCount s = c .peers-are in
+    let own : q .first ≡ first s i = c .first-is in
+    let number : q .count ≡ count s i = c .count-is in
+    let place : i < keyCount s = r .counted in
+    let inside : first s i + count s i ≤ peerCount s = r .inside in
+    let n : keyCount s ≤ L .keys = r .framed .keys-fit in
+    let m : peerCount s ≤ L .peers = r .framed .peers-fit in
+    record {
+      size = r .framed .size;
+      total-fits = r .framed .total-fits;
+      place = omega arith;
+      keys-fit = omega arith;
+      inside = omega arith;
+      peers-fit = omega arith;
+    }
 
 -- an entry between others, within the limits: i entries before it, n in all, m peers in all, f before its own k
 pub record Parts (L : Limits) (pre : List Entry) (e : Entry) (post : List Entry) (i n m f k : ℕ) : Type 0 where

@@ -1,7 +1,6 @@
 pub mod RangeLaws
 pub mod EntryLaws
 pub mod RequestLaws
-pub mod ReadableLaws
 pub mod MessageLaws
 pub mod BytesLaws
 pub mod StoreLaws

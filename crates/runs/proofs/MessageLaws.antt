@@ -26,7 +26,7 @@ use Rattle.session.specs.Rules.{lengthOk, opens}
 use Rattle.runs.specs.Alike.{inKeysFrom, inMessageKey, AlikeMessages}
 use Rattle.runs.proofs.RangeLaws.{SameIn, get16-same, get32-same, numbers-same, allOdd-same, before-key, past-key}
 use Rattle.runs.proofs.RequestLaws.{AlikeRequest, alike-add, AlikeRequests, no-requests, one-request, same-requests}
-use Rattle.runs.proofs.ReadableLaws.{fields-fit, fields-rest, list-fields}
+use Rattle.message.proofs.ReadableLaws.{fields-fit, fields-rest, listOk-fields}
 
 -- ---- add requests of two messages
 
@@ -170,7 +170,7 @@ module _ (m m' : List ℕ) (x : AlikeMessages m m') where
   unfolding requests
   adds-alike h =
       subst (λ (y : ℕ). AlikeRequests (requestsFrom Adds m 22 (requestNumber m)) (requestsFrom Adds m' 22 y)) number-same
-      (requestsFrom-alike m m' x (requestNumber m) 22 same-from (list-fields Adds m h))
+      (requestsFrom-alike m m' x (requestNumber m) 22 same-from (listOk-fields Adds m h))
 
   add-reading : kind m ≡ Asks (Requests Adds) → Reading m m'
   add-reading a =

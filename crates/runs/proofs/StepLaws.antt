@@ -32,7 +32,7 @@ use Rattle.runs.specs.Alike.{AlikeMessages}
 use Rattle.runs.specs.Tally.{Tag, responseOf, obeyed}
 use Rattle.runs.proofs.EntryLaws.{no-entries}
 use Rattle.runs.proofs.RequestLaws.{AlikeRequests, results-alike, work-alike}
-use Rattle.runs.proofs.ReadableLaws.{requests-readable}
+use Rattle.message.proofs.ReadableLaws.{requests-readable}
 use Rattle.runs.proofs.MessageLaws.{Reading, reading}
 use Rattle.runs.proofs.TwinLaws.{Twins, encode-twins, twins-bounded, total-edition, wellFormed, wellFormed'}
 

@@ -6,4 +6,6 @@ pub mod WellFormedLaws
 pub mod RequestLaws
 pub mod SearchLaws
 pub mod EmptyLaws
+pub mod AnswerLaws
 pub mod Examples
+pub mod Theorems

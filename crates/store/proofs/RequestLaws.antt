@@ -14,7 +14,7 @@ use Rattle.store.specs.Request.{Request, add, delete, validity, entities
 use Rattle.store.specs.WellFormed.{WellFormed, Readable, AllReadable}
 use Rattle.store.specs.declared.Limits.{Limits}
 use Rattle.store.proofs.SoundLaws.{sound-bounded}
-use Rattle.store.proofs.EncodeLaws.{encode-sound, entries-encode}
+use Rattle.store.proofs.EncodeLaws.{encode-sound}
 use Rattle.store.proofs.WellFormedLaws.{sound-wellFormed, removeAt-wellFormed, validFor-wellFormed, withPeers-wellFormed, added-wellFormed}
 
 -- the first reason applies, or it does not
@@ -102,11 +102,5 @@ work-wellFormed L own (r ∷ rs) es f w = work-wellFormed L own rs (after L own 
 -- ---- of a sound store
 
 module _ (L : Limits) (own : ℕ) (s : List ℕ) (b : Bytes s) (h : sound L s ≡ true) where
-  pub after-sound : (r : Request) → Readable r → sound L (encode L (after L own r (entries L s))) ≡ true
-  after-sound r f = encode-sound L (after L own r (entries L s)) (sound-bounded L s h b) (after-wellFormed L own (entries L s) (sound-wellFormed L s b h) r f)
-
-  pub entries-after : (r : Request) → Readable r → entries L (encode L (after L own r (entries L s))) ≡ after L own r (entries L s)
-  entries-after r f = entries-encode L (after L own r (entries L s)) (sound-bounded L s h b) (after-wellFormed L own (entries L s) (sound-wellFormed L s b h) r f)
-
   pub work-sound : (rs : List Request) → AllReadable rs → sound L (encode L (work L own rs (entries L s) .left)) ≡ true
   work-sound rs f = encode-sound L (work L own rs (entries L s) .left) (sound-bounded L s h b) (work-wellFormed L own rs (entries L s) f (sound-wellFormed L s b h))

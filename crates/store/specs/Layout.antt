@@ -10,9 +10,6 @@ use Rattle.store.specs.declared.Edition.{Edition}
 use Rattle.store.specs.declared.Edition.the-variants.{Known, Unknown}
 
 -- the header has 12 bytes, a key record 44, a peer 4
-abbrev pub keysAt : ℕ
-keysAt = 12
-
 abbrev pub recordAt : ℕ → ℕ
 recordAt i = 12 + 44 * i
 

@@ -3,3 +3,4 @@ pub mod Store
 pub mod Search
 pub mod Request
 pub mod WellFormed
+pub mod Claims

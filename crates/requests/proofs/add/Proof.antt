@@ -21,7 +21,8 @@ returns c =
     let slice-known = add-result .before .before .before in
     let start = slice-known .before in
     let a = start .args in
-    refused (a .lim) (a .own) (addition (a .new) (a .m .now)) (a .s .now) (add-result .add-result .result) (λ j. slice-known .slice-known .given j .fits) (start .pre .0) (add-result .add-result .ensures) (c .if1 .taken)
+    refused (a .lim) (a .own) (addition (a .new) (a .m .now)) (a .s .now) (add-result .add-result .result)
+    (λ j. slice-known .slice-known .given j .fits) (start .pre .0) (add-result .add-result .ensures) (c .if1 .taken)
 
 append-requires : tie.Need-append-requires
 append-requires c κs =
@@ -41,7 +42,8 @@ returns-2 c =
     let add-result = if1 .before in
     let start = add-result .before .before .before .before in
     let a = start .args in
-    add-worked (a .lim) (a .own) (a .s .now) (a .new .recipient) (newEntry (a .new) (a .m .now)) (append .append .last .0) (sym (add-result .add-result .ensures) ∙ if1 .if1 .left) (append .append .ensures)
+    add-worked (a .lim) (a .own) (a .s .now) (a .new .recipient) (newEntry (a .new) (a .m .now)) (append .append .last .0)
+    (sym (add-result .add-result .ensures) ∙ if1 .if1 .left) (append .append .ensures)
 
 pub add-spec : {M : Type 1} → statement M
 add-spec =

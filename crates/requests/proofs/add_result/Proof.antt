@@ -36,7 +36,8 @@ returns-2 c =
     let if1 = all-odd .before in
     let start = if1 .before .before .before .before in
     let a = start .args in
-    add-corrupted (a .lim) (a .own) (a .s .now) (a .new .recipient) (newEntry (a .new) (a .m .now)) (if1 .if1 .left) (sym (all-odd .all-odd .ensures) ∙ not-true (all-odd .all-odd .result) (c .if2 .taken))
+    add-corrupted (a .lim) (a .own) (a .s .now) (a .new .recipient) (newEntry (a .new) (a .m .now)) (if1 .if1 .left)
+    (sym (all-odd .all-odd .ensures) ∙ not-true (all-odd .all-odd .result) (c .if2 .taken))
 
 key-place-requires : tie.Need-key-place-requires
 key-place-requires c κs =
@@ -55,7 +56,9 @@ returns-3 c =
     let number-at = if1 .before in
     let start = number-at .before .before .before in
     let a = start .args in
-    add-held (a .lim) (a .own) (a .s .now) (a .new .recipient) (newEntry (a .new) (a .m .now)) (if1 .if1 .left) (sym (all-odd .all-odd .ensures) ∙ not-false (all-odd .all-odd .result) (if2 .if2 .left)) (number-at .number-at .result) (key-place .key-place .result) (number-at .number-at .ensures .0) (key-place .key-place .ensures) (c .if3 .taken)
+    add-held (a .lim) (a .own) (a .s .now) (a .new .recipient) (newEntry (a .new) (a .m .now)) (if1 .if1 .left)
+    (sym (all-odd .all-odd .ensures) ∙ not-false (all-odd .all-odd .result) (if2 .if2 .left)) (number-at .number-at .result)
+    (key-place .key-place .result) (number-at .number-at .ensures .0) (key-place .key-place .ensures) (c .if3 .taken)
 
 returns-4 : tie.Need-returns-4
 returns-4 c =
@@ -67,7 +70,9 @@ returns-4 c =
     let number-at = if1 .before in
     let start = number-at .before .before .before in
     let a = start .args in
-    add-full (a .lim) (a .own) (a .s .now) (a .new .recipient) (newEntry (a .new) (a .m .now)) (if1 .if1 .left) (sym (all-odd .all-odd .ensures) ∙ not-false (all-odd .all-odd .result) (if2 .if2 .left)) (number-at .number-at .result) (key-place .key-place .result) (number-at .number-at .ensures .0) (key-place .key-place .ensures) (if3 .if3 .left) (c .if4 .taken)
+    add-full (a .lim) (a .own) (a .s .now) (a .new .recipient) (newEntry (a .new) (a .m .now)) (if1 .if1 .left)
+    (sym (all-odd .all-odd .ensures) ∙ not-false (all-odd .all-odd .result) (if2 .if2 .left)) (number-at .number-at .result)
+    (key-place .key-place .result) (number-at .number-at .ensures .0) (key-place .key-place .ensures) (if3 .if3 .left) (c .if4 .taken)
 
 number-at-requires-2 : tie.Need-number-at-requires-2
 number-at-requires-2 c κs =
@@ -93,7 +98,11 @@ returns-5 c =
     let number-at = if1 .before in
     let start = number-at .before .before .before in
     let a = start .args in
-    add-crowded (a .lim) (a .own) (a .s .now) (a .new .recipient) (newEntry (a .new) (a .m .now)) (if1 .if1 .left) (sym (all-odd .all-odd .ensures) ∙ not-false (all-odd .all-odd .result) (if2 .if2 .left)) (number-at .number-at .result) (key-place .key-place .result) (number-at .number-at .ensures .0) (key-place .key-place .ensures) (if3 .if3 .left) (if4 .if4 .left) (start .pre .0) (number-at2 .number-at2 .result) (a .new .count) (number-at2 .number-at2 .ensures .0) (sym (length-numbers (a .m .now) (a .new .peers) (a .new .count))) (c .if5 .taken)
+    add-crowded (a .lim) (a .own) (a .s .now) (a .new .recipient) (newEntry (a .new) (a .m .now)) (if1 .if1 .left)
+    (sym (all-odd .all-odd .ensures) ∙ not-false (all-odd .all-odd .result) (if2 .if2 .left)) (number-at .number-at .result)
+    (key-place .key-place .result) (number-at .number-at .ensures .0) (key-place .key-place .ensures) (if3 .if3 .left) (if4 .if4 .left)
+    (start .pre .0) (number-at2 .number-at2 .result) (a .new .count) (number-at2 .number-at2 .ensures .0)
+    (sym (length-numbers (a .m .now) (a .new .peers) (a .new .count))) (c .if5 .taken)
 
 returns-6 : tie.Need-returns-6
 returns-6 c =
@@ -107,7 +116,11 @@ returns-6 c =
     let number-at = if1 .before in
     let start = number-at .before .before .before in
     let a = start .args in
-    add-possible (a .lim) (a .own) (a .s .now) (a .new .recipient) (newEntry (a .new) (a .m .now)) (if1 .if1 .left) (sym (all-odd .all-odd .ensures) ∙ not-false (all-odd .all-odd .result) (if2 .if2 .left)) (number-at .number-at .result) (key-place .key-place .result) (number-at .number-at .ensures .0) (key-place .key-place .ensures) (if3 .if3 .left) (if4 .if4 .left) (start .pre .0) (number-at2 .number-at2 .result) (a .new .count) (number-at2 .number-at2 .ensures .0) (sym (length-numbers (a .m .now) (a .new .peers) (a .new .count))) (c .if5 .left)
+    add-possible (a .lim) (a .own) (a .s .now) (a .new .recipient) (newEntry (a .new) (a .m .now)) (if1 .if1 .left)
+    (sym (all-odd .all-odd .ensures) ∙ not-false (all-odd .all-odd .result) (if2 .if2 .left)) (number-at .number-at .result)
+    (key-place .key-place .result) (number-at .number-at .ensures .0) (key-place .key-place .ensures) (if3 .if3 .left) (if4 .if4 .left)
+    (start .pre .0) (number-at2 .number-at2 .result) (a .new .count) (number-at2 .number-at2 .ensures .0)
+    (sym (length-numbers (a .m .now) (a .new .peers) (a .new .count))) (c .if5 .left)
 
 pub add-result-spec : {M : Type 1} → statement M
 add-result-spec =

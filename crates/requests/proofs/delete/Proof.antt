@@ -39,7 +39,9 @@ returns c =
     let number-at = key-place .before .before in
     let start = number-at .before .before .before in
     let a = start .args in
-    λ own. delete-worked (a .lim) (a .s .now) (a .issuer) (a .serial) (number-at .number-at .result) (key-place .key-place .result) (number-at .number-at .ensures .0) (key-place .key-place .ensures) own (remove-at .remove-at .last .0) (if1 .if1 .taken) (remove-at .remove-at .ensures)
+    λ own. delete-worked (a .lim) (a .s .now) (a .issuer) (a .serial) (number-at .number-at .result) (key-place .key-place .result)
+    (number-at .number-at .ensures .0) (key-place .key-place .ensures) own (remove-at .remove-at .last .0) (if1 .if1 .taken)
+    (remove-at .remove-at .ensures)
 
 same-length-2 : tie.Need-same-length-2
 same-length-2 c = search needs
@@ -51,7 +53,8 @@ returns-2 c =
     let slice-known = number-at .before .before in
     let start = slice-known .before in
     let a = start .args in
-    λ own. delete-refused (a .lim) (a .s .now) (a .issuer) (a .serial) (number-at .number-at .result) (key-place .key-place .result) (number-at .number-at .ensures .0) (key-place .key-place .ensures) own (λ j. slice-known .slice-known .given j .fits) (start .pre) (c .if1 .left)
+    λ own. delete-refused (a .lim) (a .s .now) (a .issuer) (a .serial) (number-at .number-at .result) (key-place .key-place .result)
+    (number-at .number-at .ensures .0) (key-place .key-place .ensures) own (λ j. slice-known .slice-known .given j .fits) (start .pre) (c .if1 .left)
 
 pub delete-spec : {M : Type 1} → statement M
 delete-spec =

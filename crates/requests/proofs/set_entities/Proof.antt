@@ -47,7 +47,9 @@ returns c =
     let slice-known = key-place .before .before .before in
     let start = slice-known .before in
     let a = start .args in
-    λ own. entities-refused (a .lim) (a .s .now) (a .issuer) (a .serial) (number-at .number-at .result) (key-place .key-place .result) (number-at .number-at .ensures .0) (key-place .key-place .ensures) own (numbers (a .m .now) (a .at) (a .count)) (λ j. slice-known .slice-known .given j .fits) (start .pre .0) (c .if1 .taken)
+    λ own. entities-refused (a .lim) (a .s .now) (a .issuer) (a .serial) (number-at .number-at .result) (key-place .key-place .result)
+    (number-at .number-at .ensures .0) (key-place .key-place .ensures) own (numbers (a .m .now) (a .at) (a .count))
+    (λ j. slice-known .slice-known .given j .fits) (start .pre .0) (c .if1 .taken)
 
 counts-at-requires : tie.Need-counts-at-requires
 counts-at-requires c κs = let r = roomy (c .before) in omega arith
@@ -85,8 +87,11 @@ returns-2 c =
     let q = counts-at .counts-at .result in
     let says = counts-at .counts-at .ensures in
     let xs = numbers (a .m .now) (a .at) (a .count) in
-    let o = around (a .lim) (a .s .now) i n (q .peers) (q .first) (q .count) (λ j. slice-known .slice-known .given j .fits) (start .pre .0) (omega arith) (number-at .number-at .ensures .0) (says .peers-are) (says .first-is) (says .count-is) in
-    λ own. entities-over (a .lim) (a .s .now) (a .issuer) (a .serial) (number-at .number-at .result) (key-place .key-place .result) (number-at .number-at .ensures .0) (key-place .key-place .ensures) own (q .peers) (q .first) (q .count) o (omega arith) xs (a .count) (sym (length-numbers (a .m .now) (a .at) (a .count))) (λ j. slice-known .slice-known .given j .fits) (start .pre .0) (c .if2 .taken)
+    let o = around (a .lim) (a .s .now) i n (q .peers) (q .first) (q .count) (λ j. slice-known .slice-known .given j .fits) (start .pre .0)
+    (omega arith) (number-at .number-at .ensures .0) (says .peers-are) (says .first-is) (says .count-is) in
+    λ own. entities-over (a .lim) (a .s .now) (a .issuer) (a .serial) (number-at .number-at .result) (key-place .key-place .result)
+    (number-at .number-at .ensures .0) (key-place .key-place .ensures) own (q .peers) (q .first) (q .count) o (omega arith) xs (a .count)
+    (sym (length-numbers (a .m .now) (a .at) (a .count))) (λ j. slice-known .slice-known .given j .fits) (start .pre .0) (c .if2 .taken)
 
 set-peers-requires : tie.Need-set-peers-requires
 set-peers-requires c κs =
@@ -118,8 +123,11 @@ returns-3 c =
     let q = counts-at .counts-at .result in
     let says = counts-at .counts-at .ensures in
     let xs = numbers (a .m .now) (a .at) (a .count) in
-    let o = around (a .lim) (a .s .now) i n (q .peers) (q .first) (q .count) (λ j. slice-known .slice-known .given j .fits) (start .pre .0) (omega arith) (number-at .number-at .ensures .0) (says .peers-are) (says .first-is) (says .count-is) in
-    λ own. entities-worked (a .lim) (a .s .now) (a .issuer) (a .serial) (number-at .number-at .result) (key-place .key-place .result) (number-at .number-at .ensures .0) (key-place .key-place .ensures) own (q .peers) (q .first) (q .count) o (omega arith) xs (a .count) (sym (length-numbers (a .m .now) (a .at) (a .count))) (set-peers .set-peers .last .0) (if2 .if2 .left) (set-peers .set-peers .ensures)
+    let o = around (a .lim) (a .s .now) i n (q .peers) (q .first) (q .count) (λ j. slice-known .slice-known .given j .fits) (start .pre .0)
+    (omega arith) (number-at .number-at .ensures .0) (says .peers-are) (says .first-is) (says .count-is) in
+    λ own. entities-worked (a .lim) (a .s .now) (a .issuer) (a .serial) (number-at .number-at .result) (key-place .key-place .result)
+    (number-at .number-at .ensures .0) (key-place .key-place .ensures) own (q .peers) (q .first) (q .count) o (omega arith) xs (a .count)
+    (sym (length-numbers (a .m .now) (a .at) (a .count))) (set-peers .set-peers .last .0) (if2 .if2 .left) (set-peers .set-peers .ensures)
 
 pub set-entities-spec : {M : Type 1} → statement M
 set-entities-spec =

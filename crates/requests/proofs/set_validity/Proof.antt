@@ -58,7 +58,8 @@ returns c =
     let start = slice-known .before in
     let a = start .args in
     let i = key-place .key-place .result in
-    λ own. validity-worked (a .lim) (a .s .now) (a .issuer) (a .serial) (number-at .number-at .result) (key-place .key-place .result) (number-at .number-at .ensures .0) (key-place .key-place .ensures) own (a .start) (a .«end») (put-period .put-period .last .0) (if1 .if1 .taken)
+    λ own. validity-worked (a .lim) (a .s .now) (a .issuer) (a .serial) (number-at .number-at .result) (key-place .key-place .result)
+    (number-at .number-at .ensures .0) (key-place .key-place .ensures) own (a .start) (a .«end») (put-period .put-period .last .0) (if1 .if1 .taken)
     (validity-written (a .lim) (a .s .now) i (a .start) (a .«end») (put-period .put-period .last .0) (λ j. slice-known .slice-known .given j .fits) (start .pre) (omega arith) (put-period .put-period .ensures))
 
 same-length-2 : tie.Need-same-length-2
@@ -71,7 +72,9 @@ returns-2 c =
     let slice-known = number-at .before .before in
     let start = slice-known .before in
     let a = start .args in
-    λ own. validity-refused (a .lim) (a .s .now) (a .issuer) (a .serial) (number-at .number-at .result) (key-place .key-place .result) (number-at .number-at .ensures .0) (key-place .key-place .ensures) own (a .start) (a .«end») (λ j. slice-known .slice-known .given j .fits) (start .pre) (c .if1 .left)
+    λ own. validity-refused (a .lim) (a .s .now) (a .issuer) (a .serial) (number-at .number-at .result) (key-place .key-place .result)
+    (number-at .number-at .ensures .0) (key-place .key-place .ensures) own (a .start) (a .«end») (λ j. slice-known .slice-known .given j .fits)
+    (start .pre) (c .if1 .left)
 
 pub set-validity-spec : {M : Type 1} → statement M
 set-validity-spec =

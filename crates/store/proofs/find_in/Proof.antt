@@ -43,7 +43,8 @@ returns-2 c =
     let is-sound = if1 .before in
     let start = is-sound .before .before in
     let a = start .args in
-    sym (find-at (a .lim) (a .s .now) (a .peer) (a .t) (sym (is-sound .is-sound .ensures) ∙ not-false (is-sound .is-sound .result) (if1 .if1 .left)) (place-of .place-of .result) (place-of .place-of .ensures) (omega arith))
+    sym
+    (find-at (a .lim) (a .s .now) (a .peer) (a .t) (sym (is-sound .is-sound .ensures) ∙ not-false (is-sound .is-sound .result) (if1 .if1 .left)) (place-of .place-of .result) (place-of .place-of .ensures) (omega arith))
 
 returns-3 : tie.Need-returns-3
 returns-3 c =
@@ -52,7 +53,8 @@ returns-3 c =
     let is-sound = if1 .before in
     let start = is-sound .before .before in
     let a = start .args in
-    sym (find-none (a .lim) (a .s .now) (a .peer) (a .t) (sym (is-sound .is-sound .ensures) ∙ not-false (is-sound .is-sound .result) (if1 .if1 .left)) (place-of .place-of .result) (place-of .place-of .ensures) (omega arith))
+    sym
+    (find-none (a .lim) (a .s .now) (a .peer) (a .t) (sym (is-sound .is-sound .ensures) ∙ not-false (is-sound .is-sound .result) (if1 .if1 .left)) (place-of .place-of .result) (place-of .place-of .ensures) (omega arith))
 
 pub find-in-spec : {M : Type 1} → statement M
 find-in-spec =

@@ -39,7 +39,8 @@ returns c =
     let clear = put-number .before .before .before .before in
     let start = clear .before .before .before .before in
     let a = start .args in
-    empty-written (a .lim) (a .s .now) (clear .clear .last .0) (put-number .put-number .last .0) (put-number2 .put-number2 .last .0) (put-number3 .put-number3 .last .0) (put-number4 .put-number4 .last .0)
+    empty-written (a .lim) (a .s .now) (clear .clear .last .0) (put-number .put-number .last .0) (put-number2 .put-number2 .last .0)
+    (put-number3 .put-number3 .last .0) (put-number4 .put-number4 .last .0)
     (start .pre .1) (clear .clear .ensures) (put-number .put-number .ensures) (put-number2 .put-number2 .ensures) (put-number3 .put-number3 .ensures) (put-number4 .put-number4 .ensures)
 
 pub write-empty-spec : {M : Type 1} → statement M

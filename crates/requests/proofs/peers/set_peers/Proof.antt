@@ -4,7 +4,7 @@ use mathlib.Core.Path.{_∙_}
 use Prim.Native.Nat.{_+_, _-_, _≤_}
 use native.Mathlib.Omega.{arith}
 use Rattle.store.proofs.SearchLaws.{Room, room}
-use Rattle.requests.proofs.AroundLaws.{around}
+use Rattle.requests.proofs.AroundLaws.{around, Fit, fit}
 use Rattle.requests.proofs.PeersLaws.{peers-written}
 use Rattle.store.specs.Store.{peerCount, count}
 use borrow.Author.Needs.{needs}
@@ -17,57 +17,50 @@ roomy k =
     let a = k .before .args in
     room (a .lim) (a .s .now) (a .i) (λ j. k .slice-known .given j .fits) (k .before .pre .0) (k .before .pre .1 .0)
 
+-- the counts, once they are read
+fitting : (k : tie.After-counts-at) → let a = k .before .before .before .before .args in Fit (a .lim) (a .s .now) (a .i) (k .counts-at .result)
+fitting k =
+    let known = k .before .before .before in
+    let a = known .before .args in
+    fit (a .lim) (a .s .now) (a .i) (k .counts-at .result) (roomy known) (k .counts-at .ensures)
+
 counts-at-requires : tie.Need-counts-at-requires
-counts-at-requires c κs =
-    let slice-known = c .before .before in
-    let start = slice-known .before in
-    let r = roomy slice-known in
-    omega (arith, start .pre .1 .1 .0, start .pre .1 .1 .1)
+counts-at-requires c κs = let r = roomy (c .before .before) in omega arith
 
 mul-replace : tie.Need-mul-replace
 mul-replace c =
     let counts-at = c .before in
-    let slice-known = counts-at .before .before .before in
-    let start = slice-known .before in
-    let r = roomy slice-known in
-    let counts-at-says = counts-at .counts-at .ensures in
-    omega (arith, start .pre .1 .1 .0, start .pre .1 .1 .1)
+    let start = counts-at .before .before .before .before in
+    let r = fitting counts-at in
+    omega (arith, counts-at .counts-at .ensures .peers-are, counts-at .counts-at .ensures .count-is, start .pre .1 .1 .0)
 
 add-replace : tie.Need-add-replace
 add-replace c =
     let counts-at = c .before in
-    let slice-known = counts-at .before .before .before in
-    let start = slice-known .before in
-    let r = roomy slice-known in
-    let counts-at-says = counts-at .counts-at .ensures in
-    omega (arith, start .pre .1 .1 .0, start .pre .1 .1 .1)
+    let start = counts-at .before .before .before .before in
+    let r = fitting counts-at in
+    omega (arith, counts-at .counts-at .ensures .peers-are, counts-at .counts-at .ensures .count-is, start .pre .1 .1 .0)
 
 mul-replace-2 : tie.Need-mul-replace-2
 mul-replace-2 c =
     let counts-at = c .before in
-    let slice-known = counts-at .before .before .before in
-    let start = slice-known .before in
-    let r = roomy slice-known in
-    let counts-at-says = counts-at .counts-at .ensures in
-    omega (arith, start .pre .1 .1 .0, start .pre .1 .1 .1)
+    let start = counts-at .before .before .before .before in
+    let r = fitting counts-at in
+    omega (arith, counts-at .counts-at .ensures .peers-are, counts-at .counts-at .ensures .count-is, start .pre .1 .1 .0)
 
 add-replace-2 : tie.Need-add-replace-2
 add-replace-2 c =
     let counts-at = c .before in
-    let slice-known = counts-at .before .before .before in
-    let start = slice-known .before in
-    let r = roomy slice-known in
-    let counts-at-says = counts-at .counts-at .ensures in
-    omega (arith, start .pre .1 .1 .0, start .pre .1 .1 .1)
+    let start = counts-at .before .before .before .before in
+    let r = fitting counts-at in
+    omega (arith, counts-at .counts-at .ensures .peers-are, counts-at .counts-at .ensures .count-is, start .pre .1 .1 .0)
 
 mul-replace-3 : tie.Need-mul-replace-3
 mul-replace-3 c =
     let counts-at = c .before in
-    let slice-known = counts-at .before .before .before in
-    let start = slice-known .before in
-    let r = roomy slice-known in
-    let counts-at-says = counts-at .counts-at .ensures in
-    omega (arith, start .pre .1 .1 .0, start .pre .1 .1 .1)
+    let start = counts-at .before .before .before .before in
+    let r = fitting counts-at in
+    omega (arith, counts-at .counts-at .ensures .peers-are, counts-at .counts-at .ensures .count-is, start .pre .1 .1 .0)
 
 mul-replace-4 : tie.Need-mul-replace-4
 mul-replace-4 c = search needs
@@ -75,111 +68,83 @@ mul-replace-4 c = search needs
 sub-replace : tie.Need-sub-replace
 sub-replace c =
     let counts-at = c .before in
-    let slice-known = counts-at .before .before .before in
-    let start = slice-known .before in
-    let r = roomy slice-known in
-    let counts-at-says = counts-at .counts-at .ensures in
-    omega (arith, start .pre .1 .1 .0, start .pre .1 .1 .1)
+    let start = counts-at .before .before .before .before in
+    let r = fitting counts-at in
+    omega (arith, counts-at .counts-at .ensures .peers-are, counts-at .counts-at .ensures .count-is, start .pre .1 .1 .0)
 
 sub-replace-2 : tie.Need-sub-replace-2
 sub-replace-2 c =
     let counts-at = c .before in
-    let slice-known = counts-at .before .before .before in
-    let start = slice-known .before in
-    let r = roomy slice-known in
-    let counts-at-says = counts-at .counts-at .ensures in
-    omega (arith, start .pre .1 .1 .0, start .pre .1 .1 .1)
+    let start = counts-at .before .before .before .before in
+    let r = fitting counts-at in
+    omega (arith, counts-at .counts-at .ensures .peers-are, counts-at .counts-at .ensures .count-is, start .pre .1 .1 .0)
 
 mul-replace-5 : tie.Need-mul-replace-5
 mul-replace-5 c =
     let counts-at = c .before in
-    let slice-known = counts-at .before .before .before in
-    let start = slice-known .before in
-    let r = roomy slice-known in
-    let counts-at-says = counts-at .counts-at .ensures in
-    omega (arith, start .pre .1 .1 .0, start .pre .1 .1 .1)
+    let start = counts-at .before .before .before .before in
+    let r = fitting counts-at in
+    omega (arith, counts-at .counts-at .ensures .peers-are, counts-at .counts-at .ensures .count-is, start .pre .1 .1 .0)
 
 replace-requires : tie.Need-replace-requires
 replace-requires c κs =
     let counts-at = c .before in
-    let slice-known = counts-at .before .before .before in
-    let start = slice-known .before in
-    let r = roomy slice-known in
-    let counts-at-says = counts-at .counts-at .ensures in
-    omega (arith, start .pre .1 .1 .0, start .pre .1 .1 .1)
+    let start = counts-at .before .before .before .before in
+    let r = fitting counts-at in
+    omega (arith, start .pre .1 .1 .1, counts-at .counts-at .ensures .peers-are, counts-at .counts-at .ensures .count-is, start .pre .1 .1 .0)
 
 mul-put-share : tie.Need-mul-put-share
 mul-put-share c =
-    let replace = c .before .before .before in
-    let counts-at = replace .before .before in
-    let slice-known = counts-at .before .before .before in
-    let start = slice-known .before in
-    let r = roomy slice-known in
-    let counts-at-says = counts-at .counts-at .ensures in
-    omega (arith, replace .replace .kept .0, start .pre .1 .1 .0, start .pre .1 .1 .1)
+    let counts-at = c .before .before .before .before .before in
+    let start = counts-at .before .before .before .before in
+    let r = fitting counts-at in
+    omega (arith, counts-at .counts-at .ensures .peers-are, counts-at .counts-at .ensures .count-is, start .pre .1 .1 .0)
 
 add-put-share : tie.Need-add-put-share
 add-put-share c =
-    let replace = c .before .before .before in
-    let counts-at = replace .before .before in
-    let slice-known = counts-at .before .before .before in
-    let start = slice-known .before in
-    let r = roomy slice-known in
-    let counts-at-says = counts-at .counts-at .ensures in
-    omega (arith, replace .replace .kept .0, start .pre .1 .1 .0, start .pre .1 .1 .1)
+    let counts-at = c .before .before .before .before .before in
+    let start = counts-at .before .before .before .before in
+    let r = fitting counts-at in
+    omega (arith, counts-at .counts-at .ensures .peers-are, counts-at .counts-at .ensures .count-is, start .pre .1 .1 .0)
 
 add-put-share-2 : tie.Need-add-put-share-2
 add-put-share-2 c =
-    let replace = c .before .before .before in
-    let counts-at = replace .before .before in
-    let slice-known = counts-at .before .before .before in
-    let start = slice-known .before in
-    let r = roomy slice-known in
-    let counts-at-says = counts-at .counts-at .ensures in
-    omega (arith, replace .replace .kept .0, start .pre .1 .1 .0, start .pre .1 .1 .1)
+    let counts-at = c .before .before .before .before .before in
+    let start = counts-at .before .before .before .before in
+    let r = fitting counts-at in
+    omega (arith, counts-at .counts-at .ensures .peers-are, counts-at .counts-at .ensures .count-is, start .pre .1 .1 .0)
 
 put-share-requires : tie.Need-put-share-requires
 put-share-requires c κs =
     let replace = c .before .before .before in
     let counts-at = replace .before .before in
-    let slice-known = counts-at .before .before .before in
-    let start = slice-known .before in
-    let r = roomy slice-known in
-    let counts-at-says = counts-at .counts-at .ensures in
-    omega (arith, replace .replace .kept .0, start .pre .1 .1 .0, start .pre .1 .1 .1)
+    let start = counts-at .before .before .before .before in
+    let r = fitting counts-at in
+    omega (arith, replace .replace .kept .0, counts-at .counts-at .ensures .peers-are, counts-at .counts-at .ensures .count-is, start .pre .1 .1 .0)
 
 mul-renumber : tie.Need-mul-renumber
 mul-renumber c =
-    let put-share = c .before .before .before in
-    let replace = put-share .before .before .before .before in
-    let counts-at = replace .before .before in
-    let slice-known = counts-at .before .before .before in
-    let start = slice-known .before in
-    let r = roomy slice-known in
-    let counts-at-says = counts-at .counts-at .ensures in
-    omega (arith, replace .replace .kept .0, put-share .put-share .kept .0, start .pre .1 .1 .0, start .pre .1 .1 .1)
+    let put-share-arg-at = c .before .before .before .before in
+    let counts-at = put-share-arg-at .before .before .before .before .before in
+    let start = counts-at .before .before .before .before in
+    let r = fitting counts-at in
+    omega (arith, counts-at .counts-at .ensures .peers-are, counts-at .counts-at .ensures .count-is, start .pre .1 .1 .0)
 
 add-renumber : tie.Need-add-renumber
 add-renumber c =
-    let put-share = c .before .before .before in
-    let replace = put-share .before .before .before .before in
-    let counts-at = replace .before .before in
-    let slice-known = counts-at .before .before .before in
-    let start = slice-known .before in
-    let r = roomy slice-known in
-    let counts-at-says = counts-at .counts-at .ensures in
-    omega (arith, replace .replace .kept .0, put-share .put-share .kept .0, start .pre .1 .1 .0, start .pre .1 .1 .1)
+    let put-share-arg-at = c .before .before .before .before in
+    let counts-at = put-share-arg-at .before .before .before .before .before in
+    let start = counts-at .before .before .before .before in
+    let r = fitting counts-at in
+    omega (arith, counts-at .counts-at .ensures .peers-are, counts-at .counts-at .ensures .count-is, start .pre .1 .1 .0)
 
 add-renumber-2 : tie.Need-add-renumber-2
 add-renumber-2 c =
-    let put-share = c .before .before .before in
-    let replace = put-share .before .before .before .before in
-    let counts-at = replace .before .before in
-    let slice-known = counts-at .before .before .before in
-    let start = slice-known .before in
-    let r = roomy slice-known in
-    let counts-at-says = counts-at .counts-at .ensures in
-    omega (arith, replace .replace .kept .0, put-share .put-share .kept .0, start .pre .1 .1 .0, start .pre .1 .1 .1)
+    let put-share-arg-at = c .before .before .before .before in
+    let counts-at = put-share-arg-at .before .before .before .before .before in
+    let start = counts-at .before .before .before .before in
+    let r = fitting counts-at in
+    omega (arith, counts-at .counts-at .ensures .peers-are, counts-at .counts-at .ensures .count-is, start .pre .1 .1 .0)
 
 sub-renumber : tie.Need-sub-renumber
 sub-renumber c = search needs
@@ -189,37 +154,29 @@ sub-renumber-2 c = search needs
 
 add-renumber-3 : tie.Need-add-renumber-3
 add-renumber-3 c =
-    let put-share = c .before .before .before in
-    let replace = put-share .before .before .before .before in
-    let counts-at = replace .before .before in
-    let slice-known = counts-at .before .before .before in
-    let start = slice-known .before in
-    let r = roomy slice-known in
-    let counts-at-says = counts-at .counts-at .ensures in
-    omega (arith, replace .replace .kept .0, put-share .put-share .kept .0, start .pre .1 .1 .0, start .pre .1 .1 .1)
+    let put-share-arg-at = c .before .before .before .before in
+    let counts-at = put-share-arg-at .before .before .before .before .before in
+    let start = counts-at .before .before .before .before in
+    let r = fitting counts-at in
+    omega (arith, counts-at .counts-at .ensures .peers-are, counts-at .counts-at .ensures .count-is, start .pre .1 .1 .0)
 
 renumber-requires : tie.Need-renumber-requires
 renumber-requires c κs =
     let put-share = c .before .before .before in
     let replace = put-share .before .before .before .before in
     let counts-at = replace .before .before in
-    let slice-known = counts-at .before .before .before in
-    let start = slice-known .before in
-    let r = roomy slice-known in
-    let counts-at-says = counts-at .counts-at .ensures in
-    omega (arith, replace .replace .kept .0, put-share .put-share .kept .0, start .pre .1 .1 .0, start .pre .1 .1 .1)
+    let start = counts-at .before .before .before .before in
+    let r = fitting counts-at in
+    omega (arith, replace .replace .kept .0, put-share .put-share .kept .0, counts-at .counts-at .ensures .peers-are, counts-at .counts-at .ensures .count-is, start .pre .1 .1 .0)
 
 sub-put-counts : tie.Need-sub-put-counts
 sub-put-counts c =
-    let renumber = c .before .before .before in
-    let put-share = renumber .before .before .before .before in
-    let replace = put-share .before .before .before .before in
-    let counts-at = replace .before .before in
-    let slice-known = counts-at .before .before .before in
-    let start = slice-known .before in
-    let r = roomy slice-known in
-    let counts-at-says = counts-at .counts-at .ensures in
-    omega (arith, replace .replace .kept .0, put-share .put-share .kept .0, renumber .renumber .kept .0, start .pre .1 .1 .0, start .pre .1 .1 .1)
+    let renumber-arg-at = c .before .before .before .before in
+    let put-share-arg-at = renumber-arg-at .before .before .before .before in
+    let counts-at = put-share-arg-at .before .before .before .before .before in
+    let start = counts-at .before .before .before .before in
+    let r = fitting counts-at in
+    omega (arith, counts-at .counts-at .ensures .peers-are, counts-at .counts-at .ensures .count-is, start .pre .1 .1 .0)
 
 add-put-counts : tie.Need-add-put-counts
 add-put-counts c = search needs
@@ -230,11 +187,10 @@ put-counts-requires c κs =
     let put-share = renumber .before .before .before .before in
     let replace = put-share .before .before .before .before in
     let counts-at = replace .before .before in
-    let slice-known = counts-at .before .before .before in
-    let start = slice-known .before in
-    let r = roomy slice-known in
-    let counts-at-says = counts-at .counts-at .ensures in
-    omega (arith, replace .replace .kept .0, put-share .put-share .kept .0, renumber .renumber .kept .0, start .pre .1 .1 .0, start .pre .1 .1 .1)
+    let start = counts-at .before .before .before .before in
+    let r = fitting counts-at in
+    omega
+    (arith, replace .replace .kept .0, put-share .put-share .kept .0, renumber .renumber .kept .0, counts-at .counts-at .ensures .peers-are, counts-at .counts-at .ensures .count-is, start .pre .1 .1 .0)
 
 same-length : tie.Need-same-length
 same-length c =

@@ -27,7 +27,8 @@ returns c =
     let put-number = put-number2 .before .before .before .before in
     let start = put-number .before .before .before in
     let a = start .args in
-    write-two (a .s .now) (a .i) (be16 (a .first)) (be16 (a .count)) (put-number .put-number .last .0) (put-number2 .put-number2 .last .0) 2 refl (omega arith) (put-number .put-number .ensures) (put-number2 .put-number2 .ensures)
+    write-two (a .s .now) (a .i) (be16 (a .first)) (be16 (a .count)) (put-number .put-number .last .0) (put-number2 .put-number2 .last .0) 2 refl
+    (omega arith) (put-number .put-number .ensures) (put-number2 .put-number2 .ensures)
 
 pub put-share-spec : {M : Type 1} → statement M
 put-share-spec =

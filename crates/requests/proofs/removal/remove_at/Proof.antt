@@ -4,7 +4,7 @@ use mathlib.Core.Path.{_∙_}
 use Prim.Native.Nat.{_-_}
 use native.Mathlib.Omega.{arith}
 use Rattle.store.proofs.SearchLaws.{Room, room}
-use Rattle.requests.proofs.AroundLaws.{around}
+use Rattle.requests.proofs.AroundLaws.{around, Fit, fit}
 use Rattle.requests.proofs.DeleteLaws.{removed-written}
 use borrow.Author.Needs.{needs}
 use Rattle.requests.proofs.removal.remove_at.Statement.{statement}
@@ -16,6 +16,13 @@ roomy k =
     let a = k .before .args in
     room (a .lim) (a .s .now) (a .i) (λ j. k .slice-known .given j .fits) (k .before .pre .0) (k .before .pre .1)
 
+-- the counts, once they are read
+fitting : (k : tie.After-counts-at) → let a = k .before .before .before .args in Fit (a .lim) (a .s .now) (a .i) (k .counts-at .result)
+fitting k =
+    let known = k .before .before in
+    let a = known .before .args in
+    fit (a .lim) (a .s .now) (a .i) (k .counts-at .result) (roomy known) (k .counts-at .ensures)
+
 mul-at : tie.Need-mul-at
 mul-at c = let r = roomy c in omega arith
 
@@ -26,116 +33,46 @@ counts-at-requires : tie.Need-counts-at-requires
 counts-at-requires c κs = let r = roomy (c .before) in omega arith
 
 sub-close-gap : tie.Need-sub-close-gap
-sub-close-gap c =
-    let counts-at = c .before in
-    let slice-known = counts-at .before .before in
-    let r = roomy slice-known in
-    let counts-at-says = counts-at .counts-at .ensures in
-    omega arith
+sub-close-gap c = let r = fitting (c .before) in omega arith
 
 sub-close-gap-2 : tie.Need-sub-close-gap-2
-sub-close-gap-2 c =
-    let counts-at = c .before in
-    let slice-known = counts-at .before .before in
-    let r = roomy slice-known in
-    let counts-at-says = counts-at .counts-at .ensures in
-    omega arith
+sub-close-gap-2 c = let r = fitting (c .before) in omega arith
 
 mul-close-gap : tie.Need-mul-close-gap
-mul-close-gap c =
-    let counts-at = c .before in
-    let slice-known = counts-at .before .before in
-    let r = roomy slice-known in
-    let counts-at-says = counts-at .counts-at .ensures in
-    omega arith
+mul-close-gap c = let r = fitting (c .before) in omega arith
 
 close-gap-requires : tie.Need-close-gap-requires
-close-gap-requires c κs =
-    let counts-at = c .before in
-    let slice-known = counts-at .before .before in
-    let r = roomy slice-known in
-    let counts-at-says = counts-at .counts-at .ensures in
-    omega arith
+close-gap-requires c κs = let r = fitting (c .before) in omega arith
 
 mul-close-gap-2 : tie.Need-mul-close-gap-2
-mul-close-gap-2 c =
-    let close-gap = c .before .before .before in
-    let counts-at = close-gap .before .before in
-    let slice-known = counts-at .before .before in
-    let r = roomy slice-known in
-    let counts-at-says = counts-at .counts-at .ensures in
-    omega (arith, close-gap .close-gap .kept .0)
+mul-close-gap-2 c = let r = fitting (c .before .before .before .before .before) in omega arith
 
 add-close-gap : tie.Need-add-close-gap
-add-close-gap c =
-    let close-gap = c .before .before .before in
-    let counts-at = close-gap .before .before in
-    let slice-known = counts-at .before .before in
-    let r = roomy slice-known in
-    let counts-at-says = counts-at .counts-at .ensures in
-    omega (arith, close-gap .close-gap .kept .0)
+add-close-gap c = let r = fitting (c .before .before .before .before .before) in omega arith
 
 mul-close-gap-3 : tie.Need-mul-close-gap-3
-mul-close-gap-3 c =
-    let close-gap = c .before .before .before in
-    let counts-at = close-gap .before .before in
-    let slice-known = counts-at .before .before in
-    let r = roomy slice-known in
-    let counts-at-says = counts-at .counts-at .ensures in
-    omega (arith, close-gap .close-gap .kept .0)
+mul-close-gap-3 c = let r = fitting (c .before .before .before .before .before) in omega arith
 
 add-close-gap-2 : tie.Need-add-close-gap-2
-add-close-gap-2 c =
-    let close-gap = c .before .before .before in
-    let counts-at = close-gap .before .before in
-    let slice-known = counts-at .before .before in
-    let r = roomy slice-known in
-    let counts-at-says = counts-at .counts-at .ensures in
-    omega (arith, close-gap .close-gap .kept .0)
+add-close-gap-2 c = let r = fitting (c .before .before .before .before .before) in omega arith
 
 mul-close-gap-4 : tie.Need-mul-close-gap-4
-mul-close-gap-4 c =
-    let close-gap = c .before .before .before in
-    let counts-at = close-gap .before .before in
-    let slice-known = counts-at .before .before in
-    let r = roomy slice-known in
-    let counts-at-says = counts-at .counts-at .ensures in
-    omega (arith, close-gap .close-gap .kept .0)
+mul-close-gap-4 c = let r = fitting (c .before .before .before .before .before) in omega arith
 
 sub-close-gap-3 : tie.Need-sub-close-gap-3
-sub-close-gap-3 c =
-    let close-gap = c .before .before .before in
-    let counts-at = close-gap .before .before in
-    let slice-known = counts-at .before .before in
-    let r = roomy slice-known in
-    let counts-at-says = counts-at .counts-at .ensures in
-    omega (arith, close-gap .close-gap .kept .0)
+sub-close-gap-3 c = let r = fitting (c .before .before .before .before .before) in omega arith
 
 sub-close-gap-4 : tie.Need-sub-close-gap-4
-sub-close-gap-4 c =
-    let close-gap = c .before .before .before in
-    let counts-at = close-gap .before .before in
-    let slice-known = counts-at .before .before in
-    let r = roomy slice-known in
-    let counts-at-says = counts-at .counts-at .ensures in
-    omega (arith, close-gap .close-gap .kept .0)
+sub-close-gap-4 c = let r = fitting (c .before .before .before .before .before) in omega arith
 
 mul-close-gap-5 : tie.Need-mul-close-gap-5
-mul-close-gap-5 c =
-    let close-gap = c .before .before .before in
-    let counts-at = close-gap .before .before in
-    let slice-known = counts-at .before .before in
-    let r = roomy slice-known in
-    let counts-at-says = counts-at .counts-at .ensures in
-    omega (arith, close-gap .close-gap .kept .0)
+mul-close-gap-5 c = let r = fitting (c .before .before .before .before .before) in omega arith
 
 close-gap-requires-2 : tie.Need-close-gap-requires-2
 close-gap-requires-2 c κs =
     let close-gap = c .before .before .before in
     let counts-at = close-gap .before .before in
-    let slice-known = counts-at .before .before in
-    let r = roomy slice-known in
-    let counts-at-says = counts-at .counts-at .ensures in
+    let r = fitting counts-at in
     omega (arith, close-gap .close-gap .kept .0)
 
 sub-renumber : tie.Need-sub-renumber
@@ -149,9 +86,7 @@ renumber-requires c κs =
     let close-gap2 = c .before .before .before in
     let close-gap = close-gap2 .before .before .before .before in
     let counts-at = close-gap .before .before in
-    let slice-known = counts-at .before .before in
-    let r = roomy slice-known in
-    let counts-at-says = counts-at .counts-at .ensures in
+    let r = fitting counts-at in
     omega (arith, close-gap .close-gap .kept .0, close-gap2 .close-gap2 .kept .0)
 
 sub-put-counts : tie.Need-sub-put-counts
@@ -159,14 +94,11 @@ sub-put-counts c = search needs
 
 sub-put-counts-2 : tie.Need-sub-put-counts-2
 sub-put-counts-2 c =
-    let renumber = c .before .before .before in
-    let close-gap2 = renumber .before .before .before .before in
-    let close-gap = close-gap2 .before .before .before .before in
-    let counts-at = close-gap .before .before in
-    let slice-known = counts-at .before .before in
-    let r = roomy slice-known in
-    let counts-at-says = counts-at .counts-at .ensures in
-    omega (arith, close-gap .close-gap .kept .0, close-gap2 .close-gap2 .kept .0, renumber .renumber .kept .0)
+    let renumber-arg-at = c .before .before .before .before in
+    let close-gap-arg2-at = renumber-arg-at .before .before .before .before in
+    let counts-at = close-gap-arg2-at .before .before .before .before .before in
+    let r = fitting counts-at in
+    omega arith
 
 put-counts-requires : tie.Need-put-counts-requires
 put-counts-requires c κs =
@@ -174,9 +106,7 @@ put-counts-requires c κs =
     let close-gap2 = renumber .before .before .before .before in
     let close-gap = close-gap2 .before .before .before .before in
     let counts-at = close-gap .before .before in
-    let slice-known = counts-at .before .before in
-    let r = roomy slice-known in
-    let counts-at-says = counts-at .counts-at .ensures in
+    let r = fitting counts-at in
     omega (arith, close-gap .close-gap .kept .0, close-gap2 .close-gap2 .kept .0, renumber .renumber .kept .0)
 
 same-length : tie.Need-same-length

@@ -120,7 +120,9 @@ returns-7 c =
     let a = start .args in
     c .unused-ok .ensures
     ∙ sym (unused-decides (a .lim) (a .s .now) (eq-eqb (length (a .s .now)) (total (a .lim)) (if1 .if1 .left))
-    (sym (header-ok .header-ok .ensures) ∙ not-false (header-ok .header-ok .result) (if2 .if2 .left)) (sym (counts-ok .counts-ok .ensures) ∙ not-false (counts-ok .counts-ok .result) (if3 .if3 .left)) (sym (sums-ok .sums-ok .ensures) ∙ not-false (sums-ok .sums-ok .result) (if4 .if4 .left))
+    (sym (header-ok .header-ok .ensures) ∙ not-false (header-ok .header-ok .result) (if2 .if2 .left))
+    (sym (counts-ok .counts-ok .ensures) ∙ not-false (counts-ok .counts-ok .result) (if3 .if3 .left))
+    (sym (sums-ok .sums-ok .ensures) ∙ not-false (sums-ok .sums-ok .result) (if4 .if4 .left))
     (sym (unique-ok .unique-ok .ensures) ∙ not-false (unique-ok .unique-ok .result) (if5 .if5 .left)) (sym (parity-ok .parity-ok .ensures) ∙ not-false (parity-ok .parity-ok .result) (if6 .if6 .left)))
 
 pub is-sound-spec : {M : Type 1} → statement M

@@ -35,10 +35,10 @@ module _ (k : Command) (m : List ℕ) where
       let c : Bool = fieldsFrom k m (at + sizeAt k m at) n in
       and-right b c (and-right a (b && c) h)
 
-  pub list-fields : listOk k m ≡ true → fieldsFrom k m requestsAt (requestNumber m) ≡ true
-  list-fields h = and-right (inRange 1 (most k) (requestNumber m)) (fieldsFrom k m requestsAt (requestNumber m)) h
+  pub listOk-fields : listOk k m ≡ true → fieldsFrom k m requestsAt (requestNumber m) ≡ true
+  listOk-fields h = and-right (inRange 1 (most k) (requestNumber m)) (fieldsFrom k m requestsAt (requestNumber m)) h
 
-readable-at : (k : Command) (m : List ℕ) → Bytes m → (at : ℕ) → at + sizeAt k m at ≤ length m → Readable (requestAt k m at)
+pub readable-at : (k : Command) (m : List ℕ) → Bytes m → (at : ℕ) → at + sizeAt k m at ≤ length m → Readable (requestAt k m at)
 unfolding Readable requestAt sizeAt
 readable-at Adds m b at h =
     record {
@@ -61,4 +61,4 @@ readable-from k m b (suc n) at h = (readable-at k m b at (fields-fit k m n at h)
 
 pub requests-readable : (k : Command) (m : List ℕ) → Bytes m → listOk k m ≡ true → AllReadable (requests k m)
 unfolding requests
-requests-readable k m b h = readable-from k m b (requestNumber m) requestsAt (list-fields k m h)
+requests-readable k m b h = readable-from k m b (requestNumber m) requestsAt (listOk-fields k m h)
