@@ -14,7 +14,7 @@ use Rattle.authentication.proofs.build.Statement.{statement}
 use Rattle.authentication.proofs.build.Tie as tie
 
 -- the length of the user data is right
-data-right : (c : tie.Else3) → between 1 1023 (length (c .before .before .before .before .before .before .before .args .user .now)) ≡ true
+data-right : (c : tie.Else3) → let p = c .before .before .before in between 1 1023 (length (p .before .before .before .before .args .user .now)) ≡ true
 data-right c = test-holds (c .before .between .result) (c .before .between .ensures) (c .if3 .left)
 
 returns : tie.Need-returns

@@ -10,7 +10,7 @@ use Rattle.authentication.proofs.user_data.Statement.{statement}
 use Rattle.authentication.proofs.user_data.Tie as tie
 
 -- the user data lie in the unit
-room : (c : tie.After-known-told) → c .before .n .given .0 .0 + 9 ≡ length (c .before .before .before .before .before .before .args .unit .now)
+room : (c : tie.After-known-told) → let p = c .before .before .before in c .before .n .given .0 .0 + 9 ≡ length (p .before .before .before .args .unit .now)
 room c =
     let p = c .before .before .before in
     let a = p .before .before .before .args in

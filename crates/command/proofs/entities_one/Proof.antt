@@ -38,7 +38,10 @@ add-set-entities c = search needs
 
 set-entities-requires : tie.Need-set-entities-requires
 unfolding sizeAt
-set-entities-requires c κs = (c .before .before .before .before .before .before .pre .0, omega (arith, c .before .get16-at .ensures, c .before .before .before .before .before .before .pre .1))
+set-entities-requires c κs =
+    let got = c .before in
+    let start = got .before .before .before .before .before in
+    (start .pre .0, omega (arith, got .get16-at .ensures, start .pre .1))
 
 same-length : tie.Need-same-length
 same-length c = search needs

@@ -34,7 +34,8 @@ returns c =
 
 get16-at-requires : tie.Need-get16-at-requires
 get16-at-requires c κs =
-    let start = c .before .before .before .before .before .before in
+    let asked = c .before in
+    let start = asked .before .before .before .before .before in
     omega (arith, listed (start .args .command) (start .args .m .now) (start .pre .2) .within)
 
 cast-work : tie.Need-cast-work
@@ -67,7 +68,8 @@ same-length-4 c = search needs
 returns-2 : tie.Need-returns-2
 returns-2 c =
     let told = c .before .before in
-    let done = told .before .before .before .before .before .before in
+    let copied = told .before .before .before in
+    let done = copied .before .before .before in
     let got = done .before .before .before in
     let test = got .before in
     let asked = test .before in
