@@ -1,8 +1,12 @@
 -- `requests::append::append` meets its contract.
 -- Assumes nothing.
 use mathlib.Core.Path.{_∙_}
-use Prim.Native.Nat.{_-_}
+use mathlib.Core.List.{List}
+use Prim.Native.Nat.{ℕ, _+_, _*_, _-_, _≤_, _<_}
 use native.Mathlib.Omega.{arith}
+use lib.ListN.{length}
+use Rattle.store.specs.declared.Limits.{Limits}
+use Rattle.requests.specs.declared.Addition.{Addition}
 use Rattle.store.proofs.SearchLaws.{Framed, frame}
 use Rattle.requests.proofs.AddLaws.{added-written}
 use borrow.Author.Needs.{needs}
@@ -15,21 +19,42 @@ framed k =
     let a = k .before .args in
     frame (a .lim) (a .s .now) (λ j. k .slice-known .given j .fits) (k .before .pre .0)
 
+-- where a record is put: the store as it came has room for it
+record Roomy (L : Limits) (s m : List ℕ) (new : Addition) (n p : ℕ) : Type 0 where
+  pub store : Framed L s
+  pub keys-left : n < L .keys
+  pub peers-left : p + new .count ≤ L .peers
+  pub key-inside : new .kmac + 24 ≤ length m
+  pub peers-inside : new .peers + 4 * new .count ≤ length m
+
+roomy : (k : tie.After-number-at2) → let one = k .before .before in let a = one .before .before .before .before .args in
+    Roomy (a .lim) (a .s .now) (a .m .now) (a .new) (one .number-at .result) (k .number-at2 .result)
+roomy k =
+    let one = k .before .before in
+    let known = one .before .before .before in
+    let start = known .before in
+    let one-says = one .number-at .ensures in
+    let two-says = k .number-at2 .ensures in
+    record {
+      store = framed known;
+      keys-left = omega (arith, start .pre .1 .0 .0);
+      peers-left = omega (arith, start .pre .1 .0 .1);
+      key-inside = start .pre .1 .1 .0;
+      peers-inside = start .pre .1 .1 .1;
+    }
+
 number-at-requires : tie.Need-number-at-requires
 number-at-requires c κs =
     let slice-known = c .before .before in
-    let start = slice-known .before in
     let r = framed slice-known in
-    omega (arith, start .pre .1 .0 .0, start .pre .1 .0 .1, start .pre .1 .1 .0, start .pre .1 .1 .1)
+    omega arith
 
 number-at-requires-2 : tie.Need-number-at-requires-2
 number-at-requires-2 c κs =
     let number-at = c .before in
     let slice-known = number-at .before .before .before in
-    let start = slice-known .before in
     let r = framed slice-known in
-    let number-at-says = number-at .number-at .ensures in
-    omega (arith, start .pre .1 .0 .0, start .pre .1 .0 .1, start .pre .1 .1 .0, start .pre .1 .1 .1)
+    omega arith
 
 mul-put-record : tie.Need-mul-put-record
 mul-put-record c = search needs
@@ -39,38 +64,20 @@ add-put-record c = search needs
 
 put-record-requires : tie.Need-put-record-requires
 put-record-requires c κs =
-    let number-at2 = c .before in
-    let number-at = number-at2 .before .before in
-    let slice-known = number-at .before .before .before in
-    let start = slice-known .before in
-    let r = framed slice-known in
-    let number-at-says = number-at .number-at .ensures in
-    let number-at2-says = number-at2 .number-at2 .ensures in
-    omega (arith, start .pre .1 .0 .0, start .pre .1 .0 .1, start .pre .1 .1 .0, start .pre .1 .1 .1)
+    let r = roomy (c .before) in
+    omega arith
 
 mul-copy : tie.Need-mul-copy
 mul-copy c =
     let put-record = c .before .before .before in
-    let number-at2 = put-record .before .before in
-    let number-at = number-at2 .before .before in
-    let slice-known = number-at .before .before .before in
-    let start = slice-known .before in
-    let r = framed slice-known in
-    let number-at-says = number-at .number-at .ensures in
-    let number-at2-says = number-at2 .number-at2 .ensures in
-    omega (arith, put-record .put-record .kept .0, start .pre .1 .0 .0, start .pre .1 .0 .1, start .pre .1 .1 .0, start .pre .1 .1 .1)
+    let r = roomy (put-record .before .before) in
+    omega (arith, put-record .put-record .kept .0)
 
 add-copy : tie.Need-add-copy
 add-copy c =
     let put-record = c .before .before .before in
-    let number-at2 = put-record .before .before in
-    let number-at = number-at2 .before .before in
-    let slice-known = number-at .before .before .before in
-    let start = slice-known .before in
-    let r = framed slice-known in
-    let number-at-says = number-at .number-at .ensures in
-    let number-at2-says = number-at2 .number-at2 .ensures in
-    omega (arith, put-record .put-record .kept .0, start .pre .1 .0 .0, start .pre .1 .0 .1, start .pre .1 .1 .0, start .pre .1 .1 .1)
+    let r = roomy (put-record .before .before) in
+    omega (arith, put-record .put-record .kept .0)
 
 mul-copy-2 : tie.Need-mul-copy-2
 mul-copy-2 c = search needs
@@ -78,14 +85,8 @@ mul-copy-2 c = search needs
 add-copy-2 : tie.Need-add-copy-2
 add-copy-2 c =
     let put-record = c .before .before .before in
-    let number-at2 = put-record .before .before in
-    let number-at = number-at2 .before .before in
-    let slice-known = number-at .before .before .before in
-    let start = slice-known .before in
-    let r = framed slice-known in
-    let number-at-says = number-at .number-at .ensures in
-    let number-at2-says = number-at2 .number-at2 .ensures in
-    omega (arith, put-record .put-record .kept .0, start .pre .1 .0 .0, start .pre .1 .0 .1, start .pre .1 .1 .0, start .pre .1 .1 .1)
+    let r = roomy (put-record .before .before) in
+    omega (arith, put-record .put-record .kept .0)
 
 mul-copy-3 : tie.Need-mul-copy-3
 mul-copy-3 c = search needs
@@ -93,14 +94,8 @@ mul-copy-3 c = search needs
 copy-requires : tie.Need-copy-requires
 copy-requires c κs =
     let put-record = c .before .before .before in
-    let number-at2 = put-record .before .before in
-    let number-at = number-at2 .before .before in
-    let slice-known = number-at .before .before .before in
-    let start = slice-known .before in
-    let r = framed slice-known in
-    let number-at-says = number-at .number-at .ensures in
-    let number-at2-says = number-at2 .number-at2 .ensures in
-    omega (arith, put-record .put-record .kept .0, start .pre .1 .0 .0, start .pre .1 .0 .1, start .pre .1 .1 .0, start .pre .1 .1 .1)
+    let r = roomy (put-record .before .before) in
+    omega (arith, put-record .put-record .kept .0)
 
 add-put-counts : tie.Need-add-put-counts
 add-put-counts c = search needs
@@ -112,14 +107,8 @@ put-counts-requires : tie.Need-put-counts-requires
 put-counts-requires c κs =
     let copy = c .before .before .before in
     let put-record = copy .before .before .before .before in
-    let number-at2 = put-record .before .before in
-    let number-at = number-at2 .before .before in
-    let slice-known = number-at .before .before .before in
-    let start = slice-known .before in
-    let r = framed slice-known in
-    let number-at-says = number-at .number-at .ensures in
-    let number-at2-says = number-at2 .number-at2 .ensures in
-    omega (arith, put-record .put-record .kept .0, copy .copy .kept .0, start .pre .1 .0 .0, start .pre .1 .0 .1, start .pre .1 .1 .0, start .pre .1 .1 .1)
+    let r = roomy (put-record .before .before) in
+    omega (arith, put-record .put-record .kept .0, copy .copy .kept .0)
 
 same-length : tie.Need-same-length
 same-length c =

@@ -1,13 +1,26 @@
 -- `session::Session::receive_open` meets its contract.
 -- Assumes nothing.
-use mathlib.Core.Path.{sym, ap, _∙_}
+use mathlib.Core.Path.{_≡_, sym, ap, _∙_}
 use Prim.Native.Nat.{_-_}
 use borrow.Author.Needs.{needs}
 use Rattle.message.specs.declared.Kind.{Kind}
-use Rattle.session.specs.Rules.{judged, typeTest}
+use Rattle.session.specs.Rules.{judged, typeTest, inState}
+use Rattle.session.specs.Sessions.{Open}
 use Rattle.session.proofs.OutcomeLaws.{does-as, fault-judged, header-judged, open-long, open-short}
 use Rattle.session.proofs.Session.receive_open.Statement.{statement}
 use Rattle.session.proofs.Session.receive_open.Tie as tie
+
+-- a message with a right header is judged by its type
+by-type : (p : tie.After-kind-of) (k : Kind) → p .kind-of .result ≡ k → let long = p .before .before .before .before in let a = long .before .before .before .before .args in
+    judged (typeTest k (a .lim) (a .m .now) (a .s .now)) (a .lim) (a .self) (a .m .now) (a .s .now) (a .out .now) ≡ inState Open (a .lim) (a .self) (a .m .now) (a .s .now) (a .out .now)
+by-type p k is =
+    let test = p .before .before in
+    let fault = test .before in
+    let long = fault .before in
+    let a = long .before .before .before .before .args in
+    ap (λ (k : Kind). judged (typeTest k (a .lim) (a .m .now) (a .s .now)) (a .lim) (a .self) (a .m .now) (a .s .now) (a .out .now)) (sym (sym (p .kind-of .ensures) ∙ is))
+    ∙ header-judged (a .lim) (a .self) (a .m .now) (a .s .now) (a .out .now) (fault .header-fault .result) (fault .header-fault .ensures) (test .if2 .left)
+    ∙ open-long (a .lim) (a .self) (a .m .now) (a .s .now) (a .out .now) (long .if1 .left)
 
 refuse-requires : tie.Need-refuse-requires
 refuse-requires c κs = search needs
@@ -70,16 +83,7 @@ returns-3 : tie.Need-returns-3
 returns-3 c =
     let done = c .before .before .before .before in
     let asks = done .before .before .before .before in
-    let typed = asks .before .before in
-    let test = typed .before .before in
-    let fault = test .before in
-    let long = fault .before in
-    let a = long .before .before .before .before .args in
-    let is = sym (typed .kind-of .ensures) ∙ asks .task .given .1 in
-    does-as
-    (ap (λ (k : Kind). judged (typeTest k (a .lim) (a .m .now) (a .s .now)) (a .lim) (a .self) (a .m .now) (a .s .now) (a .out .now)) (sym is)
-    ∙ header-judged (a .lim) (a .self) (a .m .now) (a .s .now) (a .out .now) (fault .header-fault .result) (fault .header-fault .ensures) (test .if2 .left)
-    ∙ open-long (a .lim) (a .self) (a .m .now) (a .s .now) (a .out .now) (long .if1 .left)) (done .perform .ensures)
+    does-as (by-type (asks .before .before) _ (asks .task .given .1)) (done .perform .ensures)
 
 same-length-4 : tie.Need-same-length-4
 same-length-4 c = search needs
@@ -89,15 +93,9 @@ returns-4 c =
     let called = c .before .before in
     let told = called .before .before in
     let typed = told .before .before in
-    let test = typed .before .before in
-    let fault = test .before in
-    let long = fault .before in
-    let a = long .before .before .before .before .args in
-    let is = sym (typed .kind-of .ensures) ∙ told .enum-told .given .1 in
-    does-as
-    (ap (λ (k : Kind). judged (typeTest k (a .lim) (a .m .now) (a .s .now)) (a .lim) (a .self) (a .m .now) (a .s .now) (a .out .now)) (sym is)
-    ∙ header-judged (a .lim) (a .self) (a .m .now) (a .s .now) (a .out .now) (fault .header-fault .result) (fault .header-fault .ensures) (test .if2 .left)
-    ∙ open-long (a .lim) (a .self) (a .m .now) (a .s .now) (a .out .now) (long .if1 .left)) (called .keep-with .ensures .by (a .s .now))
+    let long = typed .before .before .before .before in
+    let start = long .before .before .before .before in
+    does-as (by-type typed _ (told .enum-told .given .1)) (called .keep-with .ensures .by (start .args .s .now))
 
 same-length-5 : tie.Need-same-length-5
 same-length-5 c = search needs
@@ -107,15 +105,9 @@ returns-5 c =
     let called = c .before .before in
     let told = called .before .before in
     let typed = told .before .before in
-    let test = typed .before .before in
-    let fault = test .before in
-    let long = fault .before in
-    let a = long .before .before .before .before .args in
-    let is = sym (typed .kind-of .ensures) ∙ told .enum-told2 .given .1 in
-    does-as
-    (ap (λ (k : Kind). judged (typeTest k (a .lim) (a .m .now) (a .s .now)) (a .lim) (a .self) (a .m .now) (a .s .now) (a .out .now)) (sym is)
-    ∙ header-judged (a .lim) (a .self) (a .m .now) (a .s .now) (a .out .now) (fault .header-fault .result) (fault .header-fault .ensures) (test .if2 .left)
-    ∙ open-long (a .lim) (a .self) (a .m .now) (a .s .now) (a .out .now) (long .if1 .left)) (called .keep-with2 .ensures .by (a .s .now))
+    let long = typed .before .before .before .before in
+    let start = long .before .before .before .before in
+    does-as (by-type typed _ (told .enum-told2 .given .1)) (called .keep-with2 .ensures .by (start .args .s .now))
 
 pub receive-open-spec : {M : Type 1} → statement M
 receive-open-spec =
