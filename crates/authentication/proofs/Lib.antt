@@ -3,4 +3,5 @@ pub mod MacLaws
 pub mod KeyLaws
 pub mod UnitLaws
 pub mod AnswerLaws
+pub mod Examples
 pub mod Theorems

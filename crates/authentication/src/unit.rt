@@ -10,7 +10,7 @@ use crate::cbc::mac_word;
 // Bytes of a triple key.
 pub const KEY: usize = 24;
 
-// Bytes of a unit: the first, 1 to 1,023 of user data, and 8 of MAC.
+// Bytes of a unit: the first, user data, and 8 of MAC. One of 9 has no user data: its MAC is judged, then H9 (H7 is for fewer).
 pub const UNIT_LEAST: usize = 9;
 
 pub const UNIT_MOST: usize = 1032;

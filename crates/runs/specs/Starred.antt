@@ -89,7 +89,9 @@ starred =
     -- T = start fits; T = end does not; start = end never fits
     ∷ (finds (holding 4 10 20 (8 ∷ []) ∷ []) 8 10 is (1 ∷ []))
     ∷ (finds (holding 4 10 20 (8 ∷ []) ∷ []) 8 20 is (0 ∷ 11 ∷ []))
+    ∷ (finds (holding 4 10 10 (8 ∷ []) ∷ []) 8 9 is (0 ∷ 11 ∷ []))
     ∷ (finds (holding 4 10 10 (8 ∷ []) ∷ []) 8 10 is (0 ∷ 11 ∷ []))
+    ∷ (finds (holding 4 10 10 (8 ∷ []) ∷ []) 8 11 is (0 ∷ 11 ∷ []))
     -- expected 65,535, received 65,535: next expected is 0
     ∷ (expects [] 65535 (from2to1 65535 1 (be16 1 ++ (be32 3 ++ be32 4))) is (0 ∷ []))
     -- length and receiver both wrong: 2

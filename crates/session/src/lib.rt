@@ -243,7 +243,7 @@ impl Session {
         }
     }
 
-    // A command with a list of requests, where the store is sound.
+    // A command with a list of requests: its work where the store is sound, else RESPONSE 6.
     fn work(self, command: Command, lim: Limits, m: &[u8], s: &mut [u8], out: &mut [u8]) -> Turn
         requires { ⌜ (Bounded lim) × (20 ≤ length (now m)) × (bodyOk (Task.Requests command) (now m) ≡ true) × (1032 ≤ length (now out)) ⌝ }
         ensures { λ r. ⌜ Does (workIfSound lim command self (now (m .entry)) (now (s .entry)) (now (out .entry))) (r .answer) (r .session) (now (s .exit)) (now (out .exit)) ⌝ }

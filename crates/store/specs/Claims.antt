@@ -1,21 +1,22 @@
 -- What is claimed of the store beside the contracts. proofs/Theorems.antt has a proof of each claim.
 -- Assumes nothing.
 use mathlib.Core.Path.{_≡_}
-use mathlib.Core.Bool.{true}
+use mathlib.Core.Bool.{true, false}
 use mathlib.Core.List.{List}
-use Prim.Native.Nat.{ℕ}
+use Prim.Native.Nat.{ℕ, _≤_}
 use lib.ListN.{length}
 use Rattle.octets.specs.Bytes.{Bytes}
 use Rattle.store.specs.declared.Limits.{Limits}
 use Rattle.store.specs.declared.Edition.the-variants.{Unknown}
 use Rattle.store.specs.Layout.{Bounded, editionOf}
 use Rattle.store.specs.Store.{Entry, encode, entries, sound}
-use Rattle.store.specs.Search.{emptied}
+use Rattle.store.specs.Search.{fits, emptied}
 use Rattle.store.specs.Request.{Request, work}
 use Rattle.store.specs.WellFormed.{WellFormed, AllReadable}
 
 -- a list of entries has one store only, and a sound store one list
 pub record OneStore : Type 0 where
+  pub sound-well-formed : (L : Limits) (s : List ℕ) → Bytes s → sound L s ≡ true → WellFormed L (entries L s)
   pub sound-encodes : (L : Limits) (s : List ℕ) → Bytes s → sound L s ≡ true → s ≡ encode L (entries L s)
   pub encodes-sound : (L : Limits) (es : List Entry) → Bounded L → WellFormed L es → sound L (encode L es) ≡ true
   pub encodes-back : (L : Limits) (es : List Entry) → Bounded L → WellFormed L es → entries L (encode L es) ≡ es
@@ -26,6 +27,10 @@ pub record OneStore : Type 0 where
 pub record RequestsKeepSound : Type 0 where
   pub kept : (L : Limits) (own : ℕ) (s : List ℕ) → Bytes s → sound L s ≡ true → (rs : List Request) → AllReadable rs
       → sound L (encode L (work L own rs (entries L s) .left)) ≡ true
+
+-- a period that ends at its start or before it fits at no moment
+pub record EmptyPeriodNeverFits : Type 0 where
+  pub never : (start end t : ℕ) → end ≤ start → fits start end t ≡ false
 
 -- the refusal H1 of `empty` writes nothing
 pub record RefusedEmptyWritesNothing : Type 0 where
