@@ -1,0 +1,93 @@
+-- What C is told of a call's answer.
+-- Assumes nothing.
+use mathlib.Core.Path.{_≡_, refl, sym, ap, _∙_, subst}
+use mathlib.Core.Bool.{Bool, true, false}
+use mathlib.Core.List.{List}
+use Prim.Native.Nat.{ℕ, _+_, _<_, _^_}
+use native.Mathlib.Omega.{arith}
+use lib.Dec.{lit<, eqb, leb}
+use lib.IntN.{ℤ, pos, _-ℤ_}
+use lib.ListN.{length}
+use mir.Syntax.{w32}
+use mir.Val.{SFits, toZ, ofZ}
+use mir.ValLaws.{toZ-pos, toZ-ofZ}
+use Rattle.refusal.specs.House.{Answer, house, gives, asks, houseNumber}
+use Rattle.refusal.specs.declared.Refusal.{Refusal}
+use Rattle.refusal.specs.declared.Refusal.the-variants.{StoreLength, OutputLength, SessionClosed, MessageShort, NoSessionInit, SameIdentity, UnitLength, MacDiffers, UnitContents, DataLength, NoKey, StoreUnsound, KeyLength}
+use Rattle.store.specs.declared.Edition.{Edition}
+use Rattle.store.specs.declared.Edition.the-variants.{Known, Unknown}
+use Rattle.store.specs.Layout.{editionOf}
+use Rattle.store.specs.Search.{find, findIn}
+use Rattle.store.proofs.SearchLaws.{editionOf-says, find-placed}
+use Rattle.authentication.specs.Keys.{keyOf}
+use Rattle.authentication.specs.Unit.{between, built, checked}
+use Rattle.authentication.proofs.UnitLaws.{between-true}
+use Rattle.authentication.proofs.AnswerLaws.{passed}
+use Rattle.kmac.specs.Code.{code, unlessRefused}
+
+-- 0 less the number n is a number of 32 bits, the answer for Hn
+pub record Negative (n : ℕ) : Type 0 where
+  pub fits : SFits w32 (pos 0 -ℤ toZ w32 n)
+  pub is : pos 0 -ℤ toZ w32 n ≡ code (house n)
+
+pub negative : (h : Refusal) → Negative (houseNumber h)
+negative StoreLength = record { fits = record { sfits = lit< tt }; is = refl }
+negative OutputLength = record { fits = record { sfits = lit< tt }; is = refl }
+negative SessionClosed = record { fits = record { sfits = lit< tt }; is = refl }
+negative MessageShort = record { fits = record { sfits = lit< tt }; is = refl }
+negative NoSessionInit = record { fits = record { sfits = lit< tt }; is = refl }
+negative SameIdentity = record { fits = record { sfits = lit< tt }; is = refl }
+negative UnitLength = record { fits = record { sfits = lit< tt }; is = refl }
+negative MacDiffers = record { fits = record { sfits = lit< tt }; is = refl }
+negative UnitContents = record { fits = record { sfits = lit< tt }; is = refl }
+negative DataLength = record { fits = record { sfits = lit< tt }; is = refl }
+negative NoKey = record { fits = record { sfits = lit< tt }; is = refl }
+negative StoreUnsound = record { fits = record { sfits = lit< tt }; is = refl }
+negative KeyLength = record { fits = record { sfits = lit< tt }; is = refl }
+
+-- what is told of a call that gives n, and of one that refuses
+pub told-given : {a : Answer} (n : ℕ) → n < 2 ^ 31 → gives n ≡ a → toZ w32 n ≡ code a
+told-given n l e = toZ-pos w32 n l ∙ ap code e
+
+pub told-refused : {a : Answer} (h : Refusal) (z : ℤ) → z ≡ code (house (houseNumber h)) → house (houseNumber h) ≡ a → toZ w32 (ofZ w32 z) ≡ code a
+told-refused h z q e =
+    let n = negative h in
+    toZ-ofZ w32 z (subst (λ (x : ℤ). SFits w32 x) (n .is ∙ sym q) (n .fits)) ∙ q ∙ ap code e
+
+-- what a buffer holds then
+pub keys-made : {a : Answer} (made old key : List ℕ) → gives 0 ≡ a → key ≡ keyOf a made → key ≡ unlessRefused a made old
+keys-made made old key e k = k ∙ ap (λ (x : Answer). keyOf x made) (sym e) ∙ ap (λ (x : Answer). unlessRefused x made old) e
+
+pub keys-kept : {a : Answer} (n : ℕ) (made old : List ℕ) → house n ≡ a → old ≡ unlessRefused a made old
+keys-kept n made old e = ap (λ (x : Answer). unlessRefused x made old) e
+
+-- ---- the answers are small numbers
+
+no-answer : {A : Type 0} (m n : ℕ) → house m ≡ gives n → A
+no-answer m n e = let z : _≡_ {A = ℕ} 0 1 = cc in absurd (omega arith)
+
+pub place-small : (s : List ℕ) (peer t p : ℕ) → find s peer t ≡ gives p → p < 2 ^ 31
+unfolding find findIn
+place-small s peer t p e = known (editionOf (length s)) refl e
+  where
+    known : (E : Edition) → editionOf (length s) ≡ E → findIn E s peer t ≡ gives p → p < 2 ^ 31
+    known Unknown h q = no-answer 1 p q
+    known (Known L) h q =
+        let b = editionOf-says (length s) L h in
+        let at = find-placed s peer t p e in
+        omega (arith, b .0 .total-fits, b .1)
+
+pub data-small : (unit key destination : List ℕ) (direction : Bool) (n : ℕ) → checked unit key destination direction ≡ gives n → n < 2 ^ 31
+data-small unit key destination direction n e =
+    let p = passed unit key destination direction n e in
+    omega (arith, p .number, between-true 9 1032 (length unit) (p .long) .1)
+
+pub unit-small : (key user out : List ℕ) (n : ℕ) → built key user out ≡ gives n → n < 2 ^ 31
+unfolding built
+unit-small key user out n e = tested (eqb (length key) 24) (leb 1032 (length out)) (between 1 1023 (length user)) refl e
+  where
+    tested : (a b d : Bool) → between 1 1023 (length user) ≡ d → asks a 13 (asks b 2 (asks d 10 (gives (length user + 9)))) ≡ gives n → n < 2 ^ 31
+    tested false b d p q = no-answer 13 n q
+    tested true false d p q = no-answer 2 n q
+    tested true true false p q = no-answer 10 n q
+    tested true true true p q = let f : length user + 9 ≡ n = cc in omega (arith, between-true 1 1023 (length user) p .1)

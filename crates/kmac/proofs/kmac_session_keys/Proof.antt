@@ -1,0 +1,44 @@
+-- `kmac::kmac_session_keys` meets its contract.
+-- Assumes nothing.
+use mathlib.Core.Path.{sym, ap, _∙_}
+use Rattle.refusal.specs.House.{houseNumber}
+use Rattle.authentication.specs.Keys.{derivedAs, sessionKeys}
+use Rattle.kmac.specs.Code.{code}
+use Rattle.kmac.proofs.CodeLaws.{told-refused, keys-made, keys-kept}
+use borrow.Author.Needs.{needs}
+use Rattle.kmac.proofs.kmac_session_keys.Statement.{statement}
+use Rattle.kmac.proofs.kmac_session_keys.Tie as tie
+
+session-keys-requires : tie.Need-session-keys-requires
+session-keys-requires c κs = search needs
+
+enum-told : tie.Need-enum-told
+enum-told c = search needs
+
+enum-known-answer : tie.Need-enum-known-answer
+enum-known-answer c = search needs
+
+refused-requires : tie.Need-refused-requires
+refused-requires c κs = search needs
+
+returns : tie.Need-returns
+returns c =
+    let made = c .before .before .before in
+    let start = made .before .before .before .before in
+    let a = start .args in
+    let d = sym (ap derivedAs (c .enum-told .given .1)) ∙ made .session-keys .ensures .said in
+    (ap code d, keys-made (sessionKeys (a .kmac .now) (a .ra .now) (a .rb .now)) (a .keys .now) (made .session-keys .result .key) d (made .session-keys .ensures .made))
+
+returns-2 : tie.Need-returns-2
+returns-2 c =
+    let h = c .before .before .answer .given in
+    let made = c .before .before .before .before .before in
+    let start = made .before .before .before .before in
+    let a = start .args in
+    let d = sym (ap derivedAs (h .1)) ∙ made .session-keys .ensures .said in
+    (told-refused (h .0 .0) (c .refused .result) (c .refused .ensures) d, keys-kept (houseNumber (h .0 .0)) (sessionKeys (a .kmac .now) (a .ra .now) (a .rb .now)) (a .keys .now) d)
+
+pub kmac-session-keys-spec : {M : Type 1} → statement M
+kmac-session-keys-spec =
+    tie.close
+    (tie.spec session-keys-requires enum-told enum-known-answer refused-requires returns returns-2)

@@ -1,0 +1,114 @@
+// The C interface (include/kmac.h): each function does what the call behind it does.
+use authentication::Built;
+use authentication::Checked;
+use authentication::Derived;
+use refusal::Refusal;
+use refusal::house_number;
+use store::Emptied;
+use store::Found;
+ghost use mathlib.Core.Path.{_≡_};
+ghost use lib.ListN.{length};
+ghost use Rattle.refusal.specs.House.{house, houseNumber};
+ghost use Rattle.des.specs.Des.{desEncipher, desDecipher};
+ghost use Rattle.store.specs.Layout.{editionOf};
+ghost use Rattle.store.specs.Search.{find, emptyIn, emptied};
+ghost use Rattle.authentication.specs.Keys.{derived, sessionKeys};
+ghost use Rattle.authentication.specs.Unit.{built, buffer, unitOf, checked};
+ghost use Rattle.kmac.specs.Code.{code, nonzero, unlessRefused};
+
+// A refusal as a negative number.
+fn refused(h: Refusal) -> i32
+    ensures { λ r. ⌜ r ≡ code (house (houseNumber h)) ⌝ }
+{
+    0 - (house_number(h) as i32)
+}
+
+// Enciphers a block.
+#[no_mangle]
+pub extern "C" fn kmac_des_encipher(key: &[u8; 8], block: &[u8; 8], result: &mut [u8; 8])
+    ensures { λ _. ⌜ now (result .exit) ≡ desEncipher (now (key .entry)) (now (block .entry)) ⌝ }
+{
+    *result = des::encipher(*key, *block);
+}
+
+// Deciphers a block.
+#[no_mangle]
+pub extern "C" fn kmac_des_decipher(key: &[u8; 8], block: &[u8; 8], result: &mut [u8; 8])
+    ensures { λ _. ⌜ now (result .exit) ≡ desDecipher (now (key .entry)) (now (block .entry)) ⌝ }
+{
+    *result = des::decipher(*key, *block);
+}
+
+// The place of the key for a peer at the moment t.
+#[no_mangle]
+pub extern "C" fn kmac_find(store: &[u8], peer: u32, t: u32) -> i32
+    ensures { λ r. ⌜ r ≡ code (find (now (store .entry)) peer t) ⌝ }
+{
+    match store::find(store, peer, t) {
+        Found::At(n) => n as i32,
+        Found::Refused(h) => refused(h),
+    }
+}
+
+// Writes the empty store of the buffer's length.
+#[no_mangle]
+pub extern "C" fn kmac_empty_store(store: &mut [u8]) -> i32
+    ensures { λ r. ⌜ (r ≡ code (emptyIn (editionOf (length (now (store .entry)))))) × (now (store .exit) ≡ emptied (editionOf (length (now (store .entry)))) (now (store .entry))) ⌝ }
+{
+    match store::empty(store) {
+        Emptied::Done => 0,
+        Emptied::Refused(h) => refused(h),
+    }
+}
+
+// Checks a unit: the length of its user data, which start at byte 1.
+#[no_mangle]
+pub extern "C" fn kmac_check(unit: &[u8], key: &[u8], destination: &[u8; 3], direction: u8) -> i32
+    ensures { λ r. ⌜ r ≡ code (checked (now (unit .entry)) (now (key .entry)) (now (destination .entry)) (nonzero direction)) ⌝ }
+{
+    match authentication::check(unit, key, *destination, direction != 0) {
+        Checked::Accepted(n) => n as i32,
+        Checked::Refused(h) => refused(h),
+    }
+}
+
+// Derives the session keys, and writes them where it does not refuse.
+#[no_mangle]
+pub extern "C" fn kmac_session_keys(
+    kmac: &[u8],
+    ra: &[u8; 8],
+    rb: &[u8; 8],
+    keys: &mut [u8; 24],
+) -> i32
+    ensures { λ r. ⌜ r ≡ code (derived (now (kmac .entry))) ⌝ }
+    ensures { λ _. ⌜ now (keys .exit) ≡ unlessRefused (derived (now (kmac .entry))) (sessionKeys (now (kmac .entry)) (now (ra .entry)) (now (rb .entry))) (now (keys .entry)) ⌝ }
+{
+    let made = authentication::session_keys(kmac, *ra, *rb);
+    let answer = made.answer;
+    let key = made.key;
+    match answer {
+        Derived::Made => {
+            *keys = key;
+            0
+        }
+        Derived::Refused(h) => refused(h),
+    }
+}
+
+// Builds a unit at the front of out.
+#[no_mangle]
+pub extern "C" fn kmac_build(
+    key: &[u8],
+    destination: &[u8; 3],
+    direction: u8,
+    user: &[u8],
+    out: &mut [u8],
+) -> i32
+    ensures { λ r. ⌜ r ≡ code (built (now (key .entry)) (now (user .entry)) (now (out .entry))) ⌝ }
+    ensures { λ _. ⌜ now (out .exit) ≡ buffer (built (now (key .entry)) (now (user .entry)) (now (out .entry))) (unitOf (now (key .entry)) (now (destination .entry)) (nonzero direction) (now (user .entry))) (now (out .entry)) ⌝ }
+{
+    match authentication::build(key, *destination, direction != 0, user, out) {
+        Built::Written(n) => n as i32,
+        Built::Refused(h) => refused(h),
+    }
+}
