@@ -1,7 +1,7 @@
 -- What C is told of a call's answer.
 -- Assumes nothing.
 use mathlib.Core.Path.{_≡_, refl, sym, ap, _∙_, subst}
-use mathlib.Core.Bool.{Bool, true, false}
+use mathlib.Core.Bool.{Bool}
 use mathlib.Core.List.{List}
 use Prim.Native.Nat.{ℕ, _+_, _<_, _^_}
 use native.Mathlib.Omega.{arith}
@@ -11,9 +11,10 @@ use lib.ListN.{length}
 use mir.Syntax.{w32}
 use mir.Val.{SFits, toZ, ofZ}
 use mir.ValLaws.{toZ-pos, toZ-ofZ}
-use Rattle.refusal.specs.House.{Answer, house, gives, asks, houseNumber}
+use Rattle.refusal.specs.House.{Answer, house, gives, houseNumber}
 use Rattle.refusal.specs.declared.Refusal.{Refusal}
 use Rattle.refusal.specs.declared.Refusal.the-variants.{StoreLength, OutputLength, SessionClosed, MessageShort, NoSessionInit, SameIdentity, UnitLength, MacDiffers, UnitContents, DataLength, NoKey, StoreUnsound, KeyLength}
+use Rattle.refusal.proofs.Laws.{asks-gives, gives-number, not-both}
 use Rattle.store.specs.declared.Edition.{Edition}
 use Rattle.store.specs.declared.Edition.the-variants.{Known, Unknown}
 use Rattle.store.specs.Layout.{editionOf}
@@ -63,15 +64,12 @@ keys-kept n made old e = ap (λ (x : Answer). unlessRefused x made old) e
 
 -- ---- the answers are small numbers
 
-no-answer : {A : Type 0} (m n : ℕ) → house m ≡ gives n → A
-no-answer m n e = let z : _≡_ {A = ℕ} 0 1 = cc in absurd (omega arith)
-
 pub place-small : (s : List ℕ) (peer t p : ℕ) → find s peer t ≡ gives p → p < 2 ^ 31
 unfolding find findIn
 place-small s peer t p e = known (editionOf (length s)) refl e
   where
     known : (E : Edition) → editionOf (length s) ≡ E → findIn E s peer t ≡ gives p → p < 2 ^ 31
-    known Unknown h q = no-answer 1 p q
+    known Unknown h q = not-both 1 p q
     known (Known L) h q =
         let b = editionOf-says (length s) L h in
         let at = find-placed s peer t p e in
@@ -84,10 +82,8 @@ data-small unit key destination direction n e =
 
 pub unit-small : (key user out : List ℕ) (n : ℕ) → built key user out ≡ gives n → n < 2 ^ 31
 unfolding built
-unit-small key user out n e = tested (eqb (length key) 24) (leb 1032 (length out)) (between 1 1023 (length user)) refl e
-  where
-    tested : (a b d : Bool) → between 1 1023 (length user) ≡ d → asks a 13 (asks b 2 (asks d 10 (gives (length user + 9)))) ≡ gives n → n < 2 ^ 31
-    tested false b d p q = no-answer 13 n q
-    tested true false d p q = no-answer 2 n q
-    tested true true false p q = no-answer 10 n q
-    tested true true true p q = let f : length user + 9 ≡ n = cc in omega (arith, between-true 1 1023 (length user) p .1)
+unit-small key user out n e =
+    let keyed = asks-gives (eqb (length key) 24) 13 _ n e in
+    let lent = asks-gives (leb 1032 (length out)) 2 _ n (keyed .1) in
+    let few = asks-gives (between 1 1023 (length user)) 10 _ n (lent .1) in
+    omega (arith, gives-number (length user + 9) n (few .1), between-true 1 1023 (length user) (few .0) .1)

@@ -1,4 +1,4 @@
-// The C interface (include/kmac.h): each function does what the call behind it does.
+// The C interface: each function does what the call behind it does.
 use authentication::Built;
 use authentication::Checked;
 use authentication::Derived;

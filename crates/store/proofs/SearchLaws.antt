@@ -12,6 +12,7 @@ use lib.Dec.{eqb, ltb}
 use borrow.Author.Tests.{eqb-true, lt-ltb, le-ltb, ltb-true}
 use Rattle.octets.specs.Bytes.{Bytes, part}
 use Rattle.refusal.specs.House.{Answer, house, gives, asks}
+use Rattle.refusal.proofs.Laws.{not-both}
 use Rattle.store.specs.Layout.{total, Bounded, editions, pickEdition, editionIn, editionOf}
 use Rattle.store.specs.Store.{Entry, entries, entriesFrom, entryAt, keyCount, first, count, peerCount, sumBefore, sound}
 use Rattle.store.specs.Search.{pickNumber, placeWhere, chosen, placed, findIn, find, keyOf, key}
@@ -125,9 +126,6 @@ pub record Placed (s : List ℕ) (peer t p : ℕ) : Type 0 where
   pub key-is : key s peer t ≡ part s (12 + 44 * (p - 1) + 8) 24
 
 module _ (s : List ℕ) (peer t p : ℕ) where
-  no-place : {A : Type 0} (n : ℕ) → house n ≡ gives p → A
-  no-place n e = let z : _≡_ {A = ℕ} 0 1 = cc in absurd (omega arith)
-
   key-at : (i : ℕ) → suc i ≡ p → keyOf (gives p) s ≡ part s (12 + 44 * (p - 1) + 8) 24
   key-at i e =
       let f : i ≡ p - 1 = omega arith in
@@ -145,15 +143,15 @@ module _ (s : List ℕ) (peer t p : ℕ) where
           let nK : keyCount s ≤ L .keys = w .keys-fit in
           let size : length s ≡ 12 + 44 * L .keys + 4 * L .peers = w .size in
           record { from-one = omega arith; inside = omega arith; key-is = ap (λ (x : Answer). keyOf x s) e ∙ key-at i f }
-      at-place L i n false h en l q = no-place 11 q
+      at-place L i n false h en l q = not-both 11 p q
 
       soundly : (L : Limits) (b : Bool) → sound L s ≡ b → asks b 12 (placed (chosen peer t (entries L s)) (length (entries L s))) ≡ gives p → Placed s peer t p
       soundly L true h q =
           at-place L (chosen peer t (entries L s)) (length (entries L s)) (ltb (chosen peer t (entries L s)) (length (entries L s))) h (entries-length L s) refl q
-      soundly L false h q = no-place 12 q
+      soundly L false h q = not-both 12 p q
 
       known : (E : Edition) → editionOf (length s) ≡ E → findIn E s peer t ≡ gives p → Placed s peer t p
-      known Unknown h q = no-place 1 q
+      known Unknown h q = not-both 1 p q
       known (Known L) h q = soundly L (sound L s) refl q
 
 pub key-none : (s : List ℕ) (peer t n : ℕ) → find s peer t ≡ house n → key s peer t ≡ []
