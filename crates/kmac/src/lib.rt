@@ -1,9 +1,15 @@
 // The C interface: each function does what the call behind it does.
+use crate::session_buffer::bytes_of;
+use crate::session_buffer::is_kept;
+use crate::session_buffer::load;
 use authentication::Built;
 use authentication::Checked;
 use authentication::Derived;
 use refusal::Refusal;
 use refusal::house_number;
+use session::Begun;
+use session::Received;
+use session::Session;
 use store::Emptied;
 use store::Found;
 ghost use mathlib.Core.Path.{_≡_};
@@ -14,7 +20,12 @@ ghost use Rattle.store.specs.Layout.{editionOf};
 ghost use Rattle.store.specs.Search.{find, emptyIn, emptied};
 ghost use Rattle.authentication.specs.Keys.{derived, sessionKeys};
 ghost use Rattle.authentication.specs.Unit.{built, buffer, unitOf, checked};
+ghost use Rattle.session.specs.Sessions.{begin, beginOutput};
+ghost use Rattle.session.specs.Rules.{receive, receivedAs};
 ghost use Rattle.kmac.specs.Code.{code, nonzero, unlessRefused};
+ghost use Rattle.kmac.specs.SessionBuffer.{sessionOf, begunLength, begunBuffer, replyLength, Short, Tells};
+
+mod session_buffer;
 
 // A refusal as a negative number.
 fn refused(h: Refusal) -> i32
@@ -111,4 +122,60 @@ pub extern "C" fn kmac_build(
         Built::Written(n) => n as i32,
         Built::Refused(h) => refused(h),
     }
+}
+
+// Begins a session: writes the session init to the front of out, and the session.
+#[no_mangle]
+pub extern "C" fn kmac_begin(
+    own: u32,
+    peer: u32,
+    number: u16,
+    session: &mut [u8; 32],
+    out: &mut [u8],
+) -> i32
+    ensures { λ r. ⌜ r ≡ code (begunLength (begin own peer number (now (out .entry)))) ⌝ }
+    ensures { λ _. ⌜ now (session .exit) ≡ begunBuffer (begin own peer number (now (out .entry))) (now (session .entry)) ⌝ }
+    ensures { λ _. ⌜ now (out .exit) ≡ beginOutput (begin own peer number (now (out .entry))) own peer number (now (out .entry)) ⌝ }
+{
+    match Session::begin(own, peer, number, out) {
+        Begun::Made(made, n) => {
+            *session = bytes_of(made);
+            n as i32
+        }
+        Begun::Refused(h) => refused(h),
+    }
+}
+
+// What C is told of an answer to a message.
+fn told(answer: Received) -> i32
+    requires { ⌜ Short (receivedAs answer) ⌝ }
+    ensures { λ r. ⌜ r ≡ code (replyLength (receivedAs answer)) ⌝ }
+{
+    match answer {
+        Received::Reply(n) => n as i32,
+        Received::Opened => 0,
+        Received::Ended => 0,
+        Received::Refused(h) => refused(h),
+    }
+}
+
+// Takes a message: works it on the store, and writes the reply to the front of out, and the session.
+#[no_mangle]
+pub extern "C" fn kmac_receive(
+    session: &mut [u8; 32],
+    message: &[u8],
+    store: &mut [u8],
+    out: &mut [u8],
+) -> i32
+    ensures { λ r. ⌜ Tells (receive (sessionOf (now (session .entry))) (now (message .entry)) (now (store .entry)) (now (out .entry))) r (now (session .entry)) (now (session .exit)) (now (store .exit)) (now (out .exit)) ⌝ }
+{
+    let before = load(session);
+    let turn = before.receive(message, store, out);
+    let answer = turn.answer;
+    let said = told(answer);
+    if is_kept(answer) {
+        *session = bytes_of(turn.session);
+        return said;
+    }
+    said
 }

@@ -66,7 +66,8 @@ verdict-says L e m s =
 -- ---- the ways of a message: what holds at the end of each holds of what the message leaves
 
 module _ (P : Outcome → Type 0) (e : Session) (m s out : List ℕ)
-    (at-refusal : (n : ℕ) (then : Session) → P (refuse n then s out))
+    (at-refusal : (n : ℕ) → eqb n 5 ≡ false → P (refuse n e s out))
+    (at-no-init : P (refuse 5 (closing e) s out))
     (at-opened : P (record { answer = opened; session = opening e (sequence m); store = s; output = out }))
     (at-failed : (response : ℕ) (then : State) → eqb response 0 ≡ false → P (respond response [] then e m s out))
     (at-passed : (L : Limits) (task : Task) → leb 20 (length m) ≡ true → Passed m task → P (obey L task e m s out)) where
@@ -81,18 +82,18 @@ module _ (P : Outcome → Type 0) (e : Session) (m s out : List ℕ)
 
   by-state : (L : Limits) (t : State) → P (inState t L e m s out)
   unfolding inState whileWaiting
-  by-state L Closed = at-refusal 3 e
+  by-state L Closed = at-refusal 3 refl
   by-state L Waiting =
       either (leb 20 (length m)) (whileWaiting e m s out) (refuse 4 e s out)
-      (λ l. either (opens e m) (record { answer = opened; session = opening e (sequence m); store = s; output = out }) (refuse 5 (closing e) s out) (λ o. at-opened) (at-refusal 5 (closing e)))
-      (at-refusal 4 e)
+      (λ l. either (opens e m) (record { answer = opened; session = opening e (sequence m); store = s; output = out }) (refuse 5 (closing e) s out) (λ o. at-opened) at-no-init)
+      (at-refusal 4 refl)
   by-state L Open =
-      either (leb 20 (length m)) (judged (verdict L e m s) L e m s out) (refuse 4 e s out) (λ l. by-verdict L l (verdict L e m s) (verdict-says L e m s)) (at-refusal 4 e)
+      either (leb 20 (length m)) (judged (verdict L e m s) L e m s out) (refuse 4 e s out) (λ l. by-verdict L l (verdict L e m s) (verdict-says L e m s)) (at-refusal 4 refl)
 
   by-edition : (E : Edition) → P (receiveIn E e m s out)
   unfolding receiveIn
-  by-edition Unknown = at-refusal 1 e
-  by-edition (Known L) = either (leb 1032 (length out)) (inState (stateOf (e .state)) L e m s out) (refuse 2 e s out) (λ l. by-state L (stateOf (e .state))) (at-refusal 2 e)
+  by-edition Unknown = at-refusal 1 refl
+  by-edition (Known L) = either (leb 1032 (length out)) (inState (stateOf (e .state)) L e m s out) (refuse 2 e s out) (λ l. by-state L (stateOf (e .state))) (at-refusal 2 refl)
 
   pub receive-ends : P (receive e m s out)
   unfolding receive

@@ -3,56 +3,63 @@
 use mathlib.Core.Path.{_≡_, refl, sym, ap, _∙_}
 use mathlib.Core.Bool.{true}
 use mathlib.Core.List.{List, []}
-use Prim.Native.Nat.{ℕ, _≤_, _<_}
+use Prim.Native.Nat.{ℕ, _+_, _≤_, _<_}
 use native.Mathlib.Omega.{arith}
-use lib.Dec.{eqb, leb}
+use lib.Dec.{eqb, leb, lit≤}
 use lib.ListN.{length, getD, take}
 use lib.Seq.{length-take-le, getD-take}
-use borrow.Author.Tests.{eqb-true, leb-true}
+use borrow.Author.Tests.{eqb-true, eqb-false, leb-true}
 use Rattle.octets.specs.Bytes.{splice}
 use Rattle.octets.proofs.BoolLaws.{and-left}
 use Rattle.store.specs.declared.Limits.{Limits}
 use Rattle.message.specs.declared.Task.{Task}
 use Rattle.message.specs.declared.Task.the-variants.{Requests, DeleteAll, EndOfUpdate}
+use Rattle.store.specs.Store.{entries}
 use Rattle.message.specs.Header.{messageLength}
+use Rattle.message.specs.Body.{requestNumber, requests}
+use Rattle.message.proofs.BodyLaws.{listed}
+use Rattle.command.proofs.WorkLaws.{results-length}
 use Rattle.session.specs.declared.Session.{Session}
-use Rattle.session.specs.Sessions.{Beginning, beginOutput}
-use Rattle.session.specs.Rules.{reply, refused, Outcome, refuse, respond, obey, receive}
-use Rattle.session.specs.Claims.{RefusalWritesNothing, OnlyZeroChangesStore, TornLeavesStore}
-use Rattle.session.proofs.RuleLaws.{receive-ends}
+use Rattle.session.specs.Sessions.{closing, Beginning, beginOutput}
+use Rattle.session.specs.Rules.{Answered, reply, refused, Outcome, refuse, respond, obey, receive}
+use Rattle.session.specs.Claims.{RefusalWritesNothing, OnlyZeroChangesStore, TornLeavesStore, RefusalLeavesSession, OnlyRepliesWrite, ReplyLength}
+use Rattle.session.proofs.RuleLaws.{Passed, receive-ends}
 
--- ---- a refusal writes nothing
+-- ---- what is no reply writes nothing
 
--- what is refused leaves the store, and the output
-record Untouched (s out : List ℕ) (n : ℕ) (o : Outcome) : Type 0 where
-  pub store-kept : o .answer ≡ refused n → o .store ≡ s
-  pub output-kept : o .answer ≡ refused n → o .output ≡ out
+-- what is no reply leaves the store, and the output
+record Quiet (s out : List ℕ) (o : Outcome) : Type 0 where
+  pub store-kept : ((n : ℕ) → o .answer ≡ reply n → ⊥) → o .store ≡ s
+  pub output-kept : ((n : ℕ) → o .answer ≡ reply n → ⊥) → o .output ≡ out
 
--- an answer that is no refusal
-not-refused : (s out : List ℕ) (n : ℕ) (o : Outcome) → (o .answer ≡ refused n → ⊥) → Untouched s out n o
-not-refused s out n o f = record { store-kept = λ q. absurd (f q); output-kept = λ q. absurd (f q) }
+replies : (s out : List ℕ) (o : Outcome) (n : ℕ) → o .answer ≡ reply n → Quiet s out o
+replies s out o n q = record { store-kept = λ f. absurd (f n q); output-kept = λ f. absurd (f n q) }
 
-module _ (e : Session) (m s out : List ℕ) (n : ℕ) where
-  obey-answers : (L : Limits) (task : Task) → obey L task e m s out .answer ≡ refused n → ⊥
-  unfolding obey respond
-  obey-answers L (Requests k) q = let z : _≡_ {A = ℕ} 0 1 = cc in omega arith
-  obey-answers L DeleteAll q = let z : _≡_ {A = ℕ} 0 1 = cc in omega arith
-  obey-answers L EndOfUpdate q = let z : _≡_ {A = ℕ} 0 1 = cc in omega arith
+quiet : (e : Session) (m s out : List ℕ) → Quiet s out (receive e m s out)
+unfolding refuse respond obey
+quiet e m s out =
+    receive-ends (Quiet s out) e m s out (λ n h. record { store-kept = λ f. refl; output-kept = λ f. refl })
+    (record { store-kept = λ f. refl; output-kept = λ f. refl }) (record { store-kept = λ f. refl; output-kept = λ f. refl })
+    (λ response then h. replies s out (respond response [] then e m s out) 23 refl) (λ L task l h. obeyed L task)
+  where
+    obeyed : (L : Limits) (task : Task) → Quiet s out (obey L task e m s out)
+    obeyed L (Requests k) = replies s out (obey L (Requests k) e m s out) _ refl
+    obeyed L DeleteAll = replies s out (obey L DeleteAll e m s out) 23 refl
+    obeyed L EndOfUpdate = record { store-kept = λ f. refl; output-kept = λ f. refl }
 
-  refused-untouched : Untouched s out n (receive e m s out)
-  unfolding refuse respond
-  refused-untouched =
-      receive-ends (Untouched s out n) e m s out (λ k then. record { store-kept = λ q. refl; output-kept = λ q. refl })
-      (record { store-kept = λ q. refl; output-kept = λ q. refl })
-      (λ response then h. not-refused s out n (respond response [] then e m s out) (λ q. let z : _≡_ {A = ℕ} 0 1 = cc in omega arith))
-      (λ L task l h. not-refused s out n (obey L task e m s out) (obey-answers L task))
+pub only-replies-write : OnlyRepliesWrite
+only-replies-write = record { of-store = λ e m s out. quiet e m s out .store-kept; of-output = λ e m s out. quiet e m s out .output-kept }
+
+-- a refusal is no reply
+no-reply : (a : Answered) (k n : ℕ) → a ≡ refused k → a ≡ reply n → ⊥
+no-reply a k n p q = let z : _≡_ {A = ℕ} 0 1 = cc in omega arith
 
 pub refusal-writes-nothing : RefusalWritesNothing
 refusal-writes-nothing =
     record {
       of-begin = λ own peer start out n q. ap (λ (b : Beginning). beginOutput b own peer start out) q;
-      of-store = λ e m s out n. refused-untouched e m s out n .store-kept;
-      of-output = λ e m s out n. refused-untouched e m s out n .output-kept;
+      of-store = λ e m s out n q. quiet e m s out .store-kept (λ k. no-reply (receive e m s out .answer) n k q);
+      of-output = λ e m s out n q. quiet e m s out .output-kept (λ k. no-reply (receive e m s out .answer) n k q);
     }
 
 -- ---- RESPONSE 0
@@ -72,7 +79,7 @@ unfolding refuse respond
 only-zero-changes-store =
     record {
       kept = λ e m s out n.
-          receive-ends (Kept s n) e m s out (λ k then. record { kept = λ q f. refl }) (record { kept = λ q f. refl })
+          receive-ends (Kept s n) e m s out (λ k h. record { kept = λ q f. refl }) (record { kept = λ q f. refl }) (record { kept = λ q f. refl })
           (λ response then h. record { kept = λ q f. refl }) (λ L task l h. obey-zero e m s out n L task) .kept;
     }
 
@@ -82,7 +89,7 @@ only-zero-changes-store =
 store-left : (e : Session) (m s out : List ℕ) → (leb 20 (length m) ≡ true → messageLength m ≡ length m → ⊥) → receive e m s out .store ≡ s
 unfolding refuse respond
 store-left e m s out f =
-    receive-ends (λ o. o .store ≡ s) e m s out (λ n then. refl) refl (λ response then h. refl)
+    receive-ends (λ o. o .store ≡ s) e m s out (λ n h. refl) refl refl (λ response then h. refl)
     (λ L task l h. absurd (f l (eqb-true (messageLength m) (length m) (and-left (eqb (messageLength m) (length m)) (leb (length m) 5000) (h .length-ok)))))
 
 -- a prefix with a whole length field has the message's
@@ -106,3 +113,64 @@ torn-leaves-store =
           let c : length m ≡ k = sym q ∙ sym b ∙ p ∙ n in
           omega arith);
     }
+
+-- ---- the session that a refusal leaves
+
+record Leaves (e : Session) (n : ℕ) (o : Outcome) : Type 0 where
+  pub as-it-was : o .answer ≡ refused n → (n ≡ 5 → ⊥) → o .session ≡ e
+  pub closed : o .answer ≡ refused n → n ≡ 5 → o .session ≡ closing e
+
+not-refused : (e : Session) (n : ℕ) (o : Outcome) → (o .answer ≡ refused n → ⊥) → Leaves e n o
+not-refused e n o f = record { as-it-was = λ q g. absurd (f q); closed = λ q g. absurd (f q) }
+
+leaves : (e : Session) (m s out : List ℕ) (n : ℕ) → Leaves e n (receive e m s out)
+unfolding refuse respond obey
+leaves e m s out n =
+    receive-ends (Leaves e n) e m s out
+    (λ k h. record { as-it-was = λ q f. refl; closed = λ q f. let j : k ≡ n = cc in absurd (eqb-false k 5 h (j ∙ f)) })
+    (record { as-it-was = λ q f. let j : 5 ≡ n = cc in absurd (f (sym j)); closed = λ q f. refl })
+    (not-refused e n _ (λ q. let z : _≡_ {A = ℕ} 0 1 = cc in omega arith))
+    (λ response then h. not-refused e n (respond response [] then e m s out) (λ q. no-reply _ n 23 q refl))
+    (λ L task l h. obeyed L task)
+  where
+    obeyed : (L : Limits) (task : Task) → Leaves e n (obey L task e m s out)
+    obeyed L (Requests k) = not-refused e n (obey L (Requests k) e m s out) (λ q. no-reply _ n _ q refl)
+    obeyed L DeleteAll = not-refused e n (obey L DeleteAll e m s out) (λ q. no-reply _ n 23 q refl)
+    obeyed L EndOfUpdate = not-refused e n (obey L EndOfUpdate e m s out) (λ q. let z : _≡_ {A = ℕ} 0 1 = cc in omega arith)
+
+pub refusal-leaves-session : RefusalLeavesSession
+refusal-leaves-session =
+    record { as-it-was = λ e m s out n. leaves e m s out n .as-it-was; closed = λ e m s out q. leaves e m s out 5 .closed q refl }
+
+-- ---- the length of a reply
+
+record Long (n : ℕ) (o : Outcome) : Type 0 where
+  pub from : o .answer ≡ reply n → 23 ≤ n
+  pub to : o .answer ≡ reply n → n ≤ 523
+
+-- a reply with few RESULTs, and an answer that is no reply
+few-results : (n k : ℕ) (o : Outcome) → o .answer ≡ reply (23 + k) → k ≤ 500 → Long n o
+few-results n k o p h =
+    record { from = λ q. let j : 23 + k ≡ n = cc in omega arith; to = λ q. let j : 23 + k ≡ n = cc in omega arith }
+
+not-replied : (n : ℕ) (o : Outcome) → (o .answer ≡ reply n → ⊥) → Long n o
+not-replied n o f = record { from = λ q. absurd (f q); to = λ q. absurd (f q) }
+
+long : (e : Session) (m s out : List ℕ) (n : ℕ) → Long n (receive e m s out)
+unfolding refuse respond obey requests
+long e m s out n =
+    receive-ends (Long n) e m s out (λ k h. not-replied n (refuse k e s out) (no-reply _ k n refl))
+    (not-replied n (refuse 5 (closing e) s out) (no-reply _ 5 n refl))
+    (not-replied n _ (λ q. let z : _≡_ {A = ℕ} 0 1 = cc in omega arith))
+    (λ response then h. few-results n 0 (respond response [] then e m s out) refl (lit≤ tt))
+    (λ L task l h. obeyed L task h)
+  where
+    obeyed : (L : Limits) (task : Task) → Passed m task → Long n (obey L task e m s out)
+    obeyed L (Requests k) h =
+        let c = requestNumber m in
+        few-results n c (obey L (Requests k) e m s out) (ap (λ (x : ℕ). reply (23 + x)) (results-length L (e .own) k m c 22 (entries L s))) (listed k m (h .body-ok) .few)
+    obeyed L DeleteAll h = few-results n 0 (obey L DeleteAll e m s out) refl (lit≤ tt)
+    obeyed L EndOfUpdate h = not-replied n (obey L EndOfUpdate e m s out) (λ q. let z : _≡_ {A = ℕ} 0 1 = cc in omega arith)
+
+pub reply-length : ReplyLength
+reply-length = record { from = λ e m s out n. long e m s out n .from; to = λ e m s out n. long e m s out n .to }

@@ -2,11 +2,11 @@
 -- Assumes nothing.
 use mathlib.Core.Path.{_≡_}
 use mathlib.Core.List.{List}
-use Prim.Native.Nat.{ℕ, _<_}
+use Prim.Native.Nat.{ℕ, _≤_, _<_}
 use lib.ListN.{length, getD, take}
 use Rattle.message.specs.Header.{messageLength}
 use Rattle.session.specs.declared.Session.{Session}
-use Rattle.session.specs.Sessions.{begin, refuses, beginOutput}
+use Rattle.session.specs.Sessions.{closing, begin, refuses, beginOutput}
 use Rattle.session.specs.Rules.{receive, reply, refused}
 
 -- demand 1: a refusal writes to no lent buffer
@@ -24,3 +24,18 @@ pub record OnlyZeroChangesStore : Type 0 where
 pub record TornLeavesStore : Type 0 where
   pub wrong-length : (e : Session) (m s out : List ℕ) → (messageLength m ≡ length m → ⊥) → receive e m s out .store ≡ s
   pub prefix : (e : Session) (m s out : List ℕ) (k : ℕ) → k < length m → messageLength m ≡ length m → receive e (take k m) s out .store ≡ s
+
+-- which session a refusal leaves: the one that was, but after H5, where it is closed
+pub record RefusalLeavesSession : Type 0 where
+  pub as-it-was : (e : Session) (m s out : List ℕ) (n : ℕ) → receive e m s out .answer ≡ refused n → (n ≡ 5 → ⊥) → receive e m s out .session ≡ e
+  pub closed : (e : Session) (m s out : List ℕ) → receive e m s out .answer ≡ refused 5 → receive e m s out .session ≡ closing e
+
+-- a session that opens or ends leaves the store and the output
+pub record OnlyRepliesWrite : Type 0 where
+  pub of-store : (e : Session) (m s out : List ℕ) → ((n : ℕ) → receive e m s out .answer ≡ reply n → ⊥) → receive e m s out .store ≡ s
+  pub of-output : (e : Session) (m s out : List ℕ) → ((n : ℕ) → receive e m s out .answer ≡ reply n → ⊥) → receive e m s out .output ≡ out
+
+-- a reply has 23 bytes and at most 500 RESULTs
+pub record ReplyLength : Type 0 where
+  pub from : (e : Session) (m s out : List ℕ) (n : ℕ) → receive e m s out .answer ≡ reply n → 23 ≤ n
+  pub to : (e : Session) (m s out : List ℕ) (n : ℕ) → receive e m s out .answer ≡ reply n → n ≤ 523

@@ -1,0 +1,75 @@
+-- `kmac::kmac_receive` meets its contract.
+-- Assumes nothing.
+use mathlib.Core.Path.{refl, sym, _∙_}
+use mathlib.Core.Bool.{true, false}
+use Rattle.kmac.proofs.SessionBufferLaws.{answer-short, tells}
+use borrow.Author.Needs.{needs}
+use Rattle.kmac.proofs.kmac_receive.Statement.{statement}
+use Rattle.kmac.proofs.kmac_receive.Tie as tie
+
+load-requires : tie.Need-load-requires
+load-requires c κs = search needs
+
+receive-requires : tie.Need-receive-requires
+receive-requires c κs = search needs
+
+told-requires : tie.Need-told-requires
+told-requires c κs =
+    let receive = c .before .before .before .before in
+    let load = receive .before .before .before in
+    let a = load .before .before .before .before .before .args in
+    answer-short (load .load .result) (a .message .now) (a .store .now) (a .out .now) (receive .receive .ensures)
+
+is-kept-requires : tie.Need-is-kept-requires
+is-kept-requires c κs = search needs
+
+bytes-of-requires : tie.Need-bytes-of-requires
+bytes-of-requires c κs = search needs
+
+same-length : tie.Need-same-length
+same-length c = search needs
+
+same-length-2 : tie.Need-same-length-2
+same-length-2 c = search needs
+
+returns : tie.Need-returns
+returns c =
+    let kept = c .before .before in
+    let told = kept .before in
+    let receive = told .before .before .before .before .before in
+    let load = receive .before .before .before in
+    let a = load .before .before .before .before .before .args in
+    tells (load .load .result) (a .message .now) (a .store .now) (a .out .now) (receive .receive .ensures) (a .session .now) (c .bytes-of .result) (told .told .result) true
+    (load .load .ensures) (told .told .ensures) (sym (c .before .if1 .taken) ∙ kept .is-kept .ensures) (c .bytes-of .ensures)
+
+same-length-3 : tie.Need-same-length-3
+same-length-3 c = search needs
+
+same-length-4 : tie.Need-same-length-4
+same-length-4 c = search needs
+
+returns-2 : tie.Need-returns-2
+returns-2 c =
+    let kept = c .before in
+    let told = kept .before in
+    let receive = told .before .before .before .before .before in
+    let load = receive .before .before .before in
+    let a = load .before .before .before .before .before .args in
+    tells (load .load .result) (a .message .now) (a .store .now) (a .out .now) (receive .receive .ensures) (a .session .now) (a .session .now) (told .told .result) false
+    (load .load .ensures) (told .told .ensures) (sym (c .if1 .left) ∙ kept .is-kept .ensures) refl
+
+pub kmac-receive-spec : {M : Type 1} → statement M
+kmac-receive-spec =
+    tie.close
+    (tie.spec
+    load-requires
+    receive-requires
+    told-requires
+    is-kept-requires
+    bytes-of-requires
+    same-length
+    same-length-2
+    returns
+    same-length-3
+    same-length-4
+    returns-2)

@@ -1,0 +1,34 @@
+-- `kmac::session_buffer::load` meets its contract.
+-- Assumes nothing.
+use borrow.Author.Needs.{needs}
+use Rattle.kmac.proofs.session_buffer.load.Statement.{statement}
+use Rattle.kmac.proofs.session_buffer.load.Tie as tie
+
+element-copy-out-state : tie.Need-element-copy-out-state
+element-copy-out-state c = search needs
+
+get16-at-requires : tie.Need-get16-at-requires
+get16-at-requires c κs = search needs
+
+get16-at-requires-2 : tie.Need-get16-at-requires-2
+get16-at-requires-2 c κs = search needs
+
+get32-at-requires : tie.Need-get32-at-requires
+get32-at-requires c κs = search needs
+
+get32-at-requires-2 : tie.Need-get32-at-requires-2
+get32-at-requires-2 c κs = search needs
+
+returns : tie.Need-returns
+returns c = cc
+
+pub load-spec : {M : Type 1} → statement M
+load-spec =
+    tie.close
+    (tie.spec
+    element-copy-out-state
+    get16-at-requires
+    get16-at-requires-2
+    get32-at-requires
+    get32-at-requires-2
+    returns)
