@@ -9,7 +9,7 @@ use lib.ListN.{length, take, drop, replicate}
 use Rattle.des.specs.Bits.{bits, bitsOfBytes, bytesOfBits}
 use Rattle.des.specs.Des.{encipherBits, decipherBits}
 use Rattle.des.specs.Words.{Keys}
-use Rattle.refusal.specs.House.{Answer, house, gives, asks, houseNumber}
+use Rattle.refusal.specs.House.{Answer, house, gives, asks, houseNumber, unlessRefused}
 use Rattle.authentication.specs.Mac.{block}
 use Rattle.authentication.specs.declared.Derived.{Derived}
 use Rattle.authentication.specs.declared.Derived.the-variants.{Made, Refused}
@@ -56,13 +56,9 @@ unfoldable pub derived : List ℕ → Answer
 derived kmac = asks (eqb (length kmac) 24) 13 (gives 0)
 
 -- the 24 bytes beside it: zeros where it is refused
-abbrev pub keyOf : Answer → List ℕ → List ℕ
-keyOf (gives n) key = key
-keyOf (house n) key = replicate 24 0
-
 pub record Derives (kmac ra rb : List ℕ) (answer : Derived) (key : List ℕ) : Type 0 where
   pub said : derivedAs answer ≡ derived kmac
-  pub made : key ≡ keyOf (derived kmac) (sessionKeys kmac ra rb)
+  pub made : key ≡ unlessRefused (derived kmac) (sessionKeys kmac ra rb) (replicate 24 0)
 
 -- ---- inside
 

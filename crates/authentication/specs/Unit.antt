@@ -7,7 +7,7 @@ use Prim.Native.Nat.{ℕ, _+_, _-_, _*_, _/_, _%_}
 use lib.Dec.{eqb, leb}
 use lib.ListN.{length, getD, take, drop}
 use Rattle.octets.specs.Bytes.{part, splice, same}
-use Rattle.refusal.specs.House.{Answer, house, gives, asks, houseNumber}
+use Rattle.refusal.specs.House.{Answer, house, gives, asks, houseNumber, unlessRefused}
 use Rattle.authentication.specs.Mac.{mac}
 use Rattle.authentication.specs.declared.Checked.{Checked}
 use Rattle.authentication.specs.declared.Checked.the-variants as checked-as
@@ -52,8 +52,7 @@ built key user out =
 
 -- what the buffer holds afterwards: the unit and behind it the old bytes, or the old bytes alone
 abbrev pub buffer : Answer → List ℕ → List ℕ → List ℕ
-buffer (gives n) unit out = splice out 0 unit
-buffer (house n) unit out = out
+buffer a unit out = unlessRefused a (splice out 0 unit) out
 
 -- the answer in the paper's numbers
 abbrev pub builtAs : Built → Answer

@@ -11,7 +11,7 @@ use lib.ListN.{length}
 use mir.Syntax.{w32}
 use mir.Val.{SFits, toZ, ofZ}
 use mir.ValLaws.{toZ-pos, toZ-ofZ}
-use Rattle.refusal.specs.House.{Answer, house, gives, houseNumber}
+use Rattle.refusal.specs.House.{Answer, house, gives, houseNumber, unlessRefused}
 use Rattle.refusal.specs.declared.Refusal.{Refusal}
 use Rattle.refusal.specs.declared.Refusal.the-variants.{StoreLength, OutputLength, SessionClosed, MessageShort, NoSessionInit, SameIdentity, UnitLength, MacDiffers, UnitContents, DataLength, NoKey, StoreUnsound, KeyLength}
 use Rattle.refusal.proofs.Laws.{asks-gives, gives-number, not-both}
@@ -20,11 +20,10 @@ use Rattle.store.specs.declared.Edition.the-variants.{Known, Unknown}
 use Rattle.store.specs.Layout.{editionOf}
 use Rattle.store.specs.Search.{find, findIn}
 use Rattle.store.proofs.SearchLaws.{editionOf-says, find-placed}
-use Rattle.authentication.specs.Keys.{keyOf}
 use Rattle.authentication.specs.Unit.{between, built, checked}
 use Rattle.authentication.proofs.UnitLaws.{between-true}
 use Rattle.authentication.proofs.AnswerLaws.{passed}
-use Rattle.kmac.specs.Code.{code, unlessRefused}
+use Rattle.kmac.specs.Code.{code}
 
 -- 0 less the number n is a number of 32 bits, the answer for Hn
 pub record Negative (n : ℕ) : Type 0 where
@@ -55,9 +54,9 @@ told-refused h z q e =
     let n = negative h in
     toZ-ofZ w32 z (subst (λ (x : ℤ). SFits w32 x) (n .is ∙ sym q) (n .fits)) ∙ q ∙ ap code e
 
--- what a buffer holds then
-pub keys-made : {a : Answer} (made old key : List ℕ) → gives 0 ≡ a → key ≡ keyOf a made → key ≡ unlessRefused a made old
-keys-made made old key e k = k ∙ ap (λ (x : Answer). keyOf x made) (sym e) ∙ ap (λ (x : Answer). unlessRefused x made old) e
+-- what a buffer holds then: where a call answers, the old bytes do not count
+pub keys-made : {a : Answer} (made none old key : List ℕ) → gives 0 ≡ a → key ≡ unlessRefused a made none → key ≡ unlessRefused a made old
+keys-made made none old key e k = k ∙ ap (λ (x : Answer). unlessRefused x made none) (sym e) ∙ ap (λ (x : Answer). unlessRefused x made old) e
 
 pub keys-kept : {a : Answer} (n : ℕ) (made old : List ℕ) → house n ≡ a → old ≡ unlessRefused a made old
 keys-kept n made old e = ap (λ (x : Answer). unlessRefused x made old) e

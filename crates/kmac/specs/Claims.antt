@@ -1,7 +1,7 @@
 -- What is claimed of the session buffer beside the contracts. proofs/SessionBufferLaws.antt has a proof of each claim.
 -- Assumes nothing.
 use mathlib.Core.Path.{_≡_}
-use Prim.Native.Nat.{ℕ, _<_}
+use Prim.Native.Nat.{_<_}
 use lib.ListN.{replicate}
 use Rattle.session.specs.declared.Session.{Session}
 use Rattle.session.specs.Sessions.{Closed, stateOf}

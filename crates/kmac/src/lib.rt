@@ -14,7 +14,7 @@ use store::Emptied;
 use store::Found;
 ghost use mathlib.Core.Path.{_≡_};
 ghost use lib.ListN.{length};
-ghost use Rattle.refusal.specs.House.{house, houseNumber};
+ghost use Rattle.refusal.specs.House.{house, houseNumber, unlessRefused};
 ghost use Rattle.des.specs.Des.{desEncipher, desDecipher};
 ghost use Rattle.store.specs.Layout.{editionOf};
 ghost use Rattle.store.specs.Search.{find, emptyIn, emptied};
@@ -22,7 +22,7 @@ ghost use Rattle.authentication.specs.Keys.{derived, sessionKeys};
 ghost use Rattle.authentication.specs.Unit.{built, buffer, unitOf, checked};
 ghost use Rattle.session.specs.Sessions.{begin, beginOutput};
 ghost use Rattle.session.specs.Rules.{receive, receivedAs};
-ghost use Rattle.kmac.specs.Code.{code, nonzero, unlessRefused};
+ghost use Rattle.kmac.specs.Code.{code, nonzero};
 ghost use Rattle.kmac.specs.SessionBuffer.{sessionOf, begunLength, begunBuffer, replyLength, Short, Tells};
 
 mod session_buffer;

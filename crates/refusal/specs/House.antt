@@ -1,6 +1,7 @@
 -- The numbers of the house's refusals (document 01, "Refusals of the house"), and what a call answers in the paper's numbers.
 -- Assumes nothing.
 use mathlib.Core.Bool.{Bool, true, false}
+use mathlib.Core.List.{List}
 use Prim.Native.Nat.{ℕ}
 use Rattle.refusal.specs.declared.Refusal.{Refusal}
 use Rattle.refusal.specs.declared.Refusal.the-variants.{StoreLength, OutputLength, SessionClosed, MessageShort, NoSessionInit, SameIdentity, UnitLength, MacDiffers, UnitContents, DataLength, NoKey, StoreUnsound, KeyLength}
@@ -29,3 +30,8 @@ pub data Answer : Type 0 where
 abbrev pub asks : Bool → ℕ → Answer → Answer
 asks true n a = a
 asks false n a = house n
+
+-- a lent buffer afterwards: what was made where the call answers, the old bytes where it refuses
+abbrev pub unlessRefused : Answer → List ℕ → List ℕ → List ℕ
+unlessRefused (gives n) made old = made
+unlessRefused (house n) made old = old

@@ -1,6 +1,7 @@
 -- `kmac::kmac_session_keys` meets its contract.
 -- Assumes nothing.
 use mathlib.Core.Path.{sym, ap, _∙_}
+use lib.ListN.{replicate}
 use Rattle.refusal.specs.House.{houseNumber}
 use Rattle.authentication.specs.Keys.{derivedAs, sessionKeys}
 use Rattle.kmac.specs.Code.{code}
@@ -27,7 +28,7 @@ returns c =
     let start = made .before .before .before .before in
     let a = start .args in
     let d = sym (ap derivedAs (c .enum-told .given .1)) ∙ made .session-keys .ensures .said in
-    (ap code d, keys-made (sessionKeys (a .kmac .now) (a .ra .now) (a .rb .now)) (a .keys .now) (made .session-keys .result .key) d (made .session-keys .ensures .made))
+    (ap code d, keys-made (sessionKeys (a .kmac .now) (a .ra .now) (a .rb .now)) (replicate 24 0) (a .keys .now) (made .session-keys .result .key) d (made .session-keys .ensures .made))
 
 returns-2 : tie.Need-returns-2
 returns-2 c =
