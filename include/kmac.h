@@ -1,0 +1,231 @@
+/*
+ * kmac.h: on-board keys and authentication for railway radio.
+ *
+ * The module is the on-board side (a KMAC entity) of SUBSET-137 1.0.0: it takes keys from the key centre into a store that
+ * the host lends. With a held key it derives session keys, and builds and checks data units (SUBSET-037-2 4.0.0).
+ * examples/c/host.c is a small host, from the empty store to a checked unit.
+ *
+ * Link with libkmac.a (x86-64, System V calling convention). It needs memmove and memset of C and nothing else.
+ *
+ *
+ * WHAT HOLDS FOR EVERY CALL
+ *
+ * Answers. A negative answer is a refusal: -n is refusal Hn (enum kmac_refusal). Refusals are tested in the order in which
+ * the call lists them, and the first that applies is the answer. A refused call writes nowhere; the one exception is H5,
+ * which closes the session. Any other answer is 0 or more and is said with the call.
+ *
+ * Buffers. All memory is the host's, lent for the call and no longer. A length is a number of bytes. A pointer with a
+ * length must point to that many bytes; a pointer written as an array, say session[KMAC_SESSION_LEN], to as many as the
+ * brackets say. No pointer may be NULL, not even where its length is 0: lend the address of any byte. No alignment is
+ * asked.
+ *
+ * Overlap. A buffer that a call may write (session, out, keys, result, and store where it is not const) must not overlap
+ * any other buffer of that call, in not a single byte. Buffers that a call only reads may overlap: a KMAC can be lent as a
+ * part of the store. What the library promises is proved for buffers that keep to this, and for no others.
+ *
+ * Output buffers. An output buffer has at least KMAC_OUT_LEN bytes. What a call writes stands at its front; the bytes
+ * behind it keep their contents.
+ *
+ * Numbers. An identity is an expanded ETCS ID as a number, its first byte on top: type 0x02 and ETCS ID 0x123456 are
+ * 0x02123456. A destination is the ETCS ID alone, three bytes, the first byte first.
+ *
+ * At the same time. The library has no state of its own: no global variable, no heap, no call of the system. Calls over
+ * different buffers may run at the same time. The host serialises the calls that share a session or a store, unless all of
+ * them only read it.
+ *
+ * Stack. No call needs more than KMAC_STACK_MAX bytes of stack, and none recurses. The figure of each call stands below.
+ *
+ * What the module does not do. It brings no random numbers, no clock and no TLS: the host does. It does not promise
+ * constant time. It does not wipe its stack, where key bytes may stay behind: a host that minds this wipes that memory.
+ *
+ *
+ * THE STORE OVER LOSS OF POWER
+ *
+ * The store is KMAC_STORE_LEN bytes of the host's, made once by kmac_empty_store. It holds keys in the clear: the host
+ * keeps others from reading it. kmac_receive changes it in place and in many steps, so loss of power in the middle can
+ * leave half a change. The host therefore never lends its only copy:
+ *
+ *     copy the kept store to working memory;
+ *     call kmac_receive on that copy;
+ *     if the answer is above 0, write the copy to a second place, and switch to it only when it stands there whole;
+ *     then send the reply.
+ *
+ * The reply goes last, so that the key centre is told of nothing that is not kept. After loss of power the host takes the
+ * store that it last switched to and begins a new session. Where a store is damaged all the same so that it is no longer
+ * sound, kmac_find refuses it with H12 and kmac_receive answers RESPONSE 6, which tells the key centre; its "delete all
+ * keys" makes the store empty. A damage that leaves the store sound, as one of two bits in a KMAC byte, is not seen: a host
+ * that fears it keeps a checksum of its own.
+ */
+#ifndef KMAC_H
+#define KMAC_H
+
+#include <stddef.h>
+#include <stdint.h>
+
+#ifdef __cplusplus
+extern "C" {
+#endif
+
+/* Lengths in bytes. */
+#define KMAC_STORE_LEN 3852       /* the key store */
+#define KMAC_STORE_KEYS 64        /* keys that it has room for, */
+#define KMAC_STORE_PEERS 256      /* and peers of all keys together */
+#define KMAC_SESSION_LEN 32       /* a session */
+#define KMAC_OUT_LEN 1032         /* the least output buffer */
+#define KMAC_MESSAGE_MAX 5000     /* the longest message of a key centre; a longer one is answered with RESPONSE 2 */
+#define KMAC_KEY_LEN 24           /* a KMAC, or the three session keys: K1, K2, K3 of 8 bytes each */
+#define KMAC_RANDOM_LEN 8         /* a random number of connection set-up */
+#define KMAC_DESTINATION_LEN 3    /* a destination: the ETCS ID without its type */
+#define KMAC_DATA_MAX 1023        /* the user data of a unit: 1 to 1,023 */
+#define KMAC_MAC_LEN 8            /* the MAC at the end of a unit */
+#define KMAC_UNIT_MIN 9           /* a unit: 9 to 1,032. One of 9 has no user data and is refused with H8 or H9 */
+#define KMAC_UNIT_MAX 1032
+#define KMAC_DES_LEN 8            /* a key or a block of DES */
+
+/*
+ * Stack of each call in bytes: from the caller's stack pointer on, with arguments, return address and glibc's memmove and
+ * memset. tests/c/frames bounds it from the machine code, tests/c/stack.c measures it. Rounded up to a multiple of 64.
+ */
+#define KMAC_STACK_EMPTY_STORE 64
+#define KMAC_STACK_FIND 192
+#define KMAC_STACK_BEGIN 64
+#define KMAC_STACK_RECEIVE 640
+#define KMAC_STACK_SESSION_KEYS 1216
+#define KMAC_STACK_BUILD 1024
+#define KMAC_STACK_CHECK 1024
+#define KMAC_STACK_DES_ENCIPHER 896
+#define KMAC_STACK_DES_DECIPHER 896
+#define KMAC_STACK_MAX 1216
+
+/* The refusals of the house. */
+enum kmac_refusal {
+    KMAC_H1_STORE_LENGTH = -1,     /* the store buffer is not 3,852 bytes */
+    KMAC_H2_OUTPUT_LENGTH = -2,    /* the output buffer is under 1,032 bytes */
+    KMAC_H3_SESSION_CLOSED = -3,   /* a message to a closed session */
+    KMAC_H4_MESSAGE_SHORT = -4,    /* a message shorter than its header of 20 bytes */
+    KMAC_H5_NO_SESSION_INIT = -5,  /* the session is waiting, and this is no valid session init: the session is closed */
+    KMAC_H6_SAME_IDENTITY = -6,    /* begin with the own identity equal to the peer's */
+    KMAC_H7_UNIT_LENGTH = -7,      /* a unit under 9 or over 1,032 bytes */
+    KMAC_H8_MAC_DIFFERS = -8,      /* the MAC differs */
+    KMAC_H9_UNIT_CONTENTS = -9,    /* the MAC is right; the user data are empty, or ETY, MTI or direction wrong */
+    KMAC_H10_DATA_LENGTH = -10,    /* the user data to protect are not 1 to 1,023 bytes */
+    KMAC_H11_NO_KEY = -11,         /* no key fits */
+    KMAC_H12_STORE_UNSOUND = -12,  /* a search in an unsound store */
+    KMAC_H13_KEY_LENGTH = -13      /* the lent key is not 24 bytes */
+};
+
+/* ---- the key store */
+
+/*
+ * Makes the empty store in the buffer, whatever stood there. This is how a store begins.
+ * Answers 0. Refuses H1.
+ */
+int32_t kmac_empty_store(uint8_t *store, size_t store_len);
+
+/*
+ * Searches the key for a peer at the moment t: the first record that has the peer in its list and start <= t < end, the
+ * three compared as unsigned numbers. Beware: SUBSET-137, 4.2.3.1, codes a moment with the hour first, and the numbers of
+ * that coding are not in the order of time. The host sees to it that periods and t reach the module in a coding whose
+ * numbers are.
+ * Answers the place of the record, the first being 1; its KMAC stands in the store at KMAC_KEY_AT(place).
+ * Refuses H1, H12, H11. Writes nothing.
+ */
+int32_t kmac_find(const uint8_t *store, size_t store_len, uint32_t peer, uint32_t t);
+
+/* Where in the store the KMAC of a place from 1 to 64 starts. It is valid until the store is written again. */
+#define KMAC_KEY_AT(place) ((size_t)12 + (size_t)44 * ((size_t)(place) - 1) + 8)
+
+/* ---- sessions with the key centre */
+
+/*
+ * A session is KMAC_SESSION_LEN bytes of the host's, opaque to it; it holds identities and sequence numbers, no pointer and
+ * no key. All zero bytes are a closed session. A session is waiting, open or closed.
+ */
+
+/*
+ * Begins a session between the own identity and the key centre's (the peer): writes a waiting session over whatever stood
+ * in session, and into out the session init with this sequence number, which the host sends first.
+ * Answers the length written, 23. Refuses H2, H6.
+ */
+int32_t kmac_begin(uint32_t own, uint32_t peer, uint16_t number, uint8_t session[KMAC_SESSION_LEN], uint8_t *out,
+                   size_t out_len);
+
+/*
+ * Takes one whole message from the key centre. The host has cut it from the stream by its first four bytes, the length
+ * field, and brings a message that ended early as far as it came.
+ * Answers the length of the reply in out, which the host sends; or 0 where there is nothing to send: the centre's session
+ * init has opened the waiting session, or its end of update has closed the open one. Writes the session whenever it does
+ * not refuse. Refuses H1, H2, H3, H4, H5. After H5 the session is closed; after any other refusal it is as before.
+ * A closed session takes no more messages: begin a new one.
+ *
+ * A reply (NOTIF_RESPONSE) has 23 bytes and one more for each request. Byte 20 is RESPONSE, bytes 21 and 22 the number of
+ * RESULTs, which stand from byte 23 on, in the order of the requests.
+ *
+ *     RESPONSE                                                               the session is then
+ *     0   done: each request has its RESULT                                  open
+ *     1   the type is none of the five commands nor end of update            open
+ *     2   the length field is not message_len, or message_len is over 5,000  closed
+ *     3   the sender is not the peer                                         closed
+ *     4   the receiver is not the own identity                               closed
+ *     5   the interface version is not 2                                     closed
+ *     6   the store is unsound (not asked for delete all)                    open
+ *     9   the sequence number is not the one expected                        closed
+ *     11  the body is not exactly its fields, or one is out of its range     closed
+ *
+ * They are tested in the order 2, 5, 4, 3, 9, 1, 11, 6. With any RESPONSE but 0 no byte of the store has changed.
+ *
+ *     RESULT
+ *     0   done
+ *     1   delete or update: the key is not held
+ *     2   add: 64 keys are held
+ *     3   add: issuer and serial are held already
+ *     4   add: a byte of the KMAC has an even number of ones
+ *     5   add: the recipient is not the own identity
+ *     255 add or update of entities: there would be more than 256 peers altogether
+ *
+ * For an add they are tested in the order 5, 4, 3, 2, 255. A request with a RESULT other than 0 leaves the store as the
+ * request before it did.
+ */
+int32_t kmac_receive(uint8_t session[KMAC_SESSION_LEN], const uint8_t *message, size_t message_len, uint8_t *store,
+                     size_t store_len, uint8_t *out, size_t out_len);
+
+/* ---- data units */
+
+/*
+ * Derives the session keys of a KMAC, of the responder's random number ra and of the initiator's, rb (SUBSET-037-2,
+ * 6.2.3.2.3.15). Writes them to keys, each byte with odd parity.
+ * Answers 0. Refuses H13.
+ */
+int32_t kmac_session_keys(const uint8_t *kmac, size_t kmac_len, const uint8_t ra[KMAC_RANDOM_LEN],
+                          const uint8_t rb[KMAC_RANDOM_LEN], uint8_t keys[KMAC_KEY_LEN]);
+
+/*
+ * Builds the data unit of user data in out: one byte (ETY 0, MTI 5, direction), the data, the MAC under the session keys.
+ * destination is the ETCS ID of the one who shall receive the unit. direction is the bit that the unit carries: 0 where the
+ * initiator of the connection sends, 1 where the responder does; any other byte counts as 1.
+ * Answers the length of the unit: data_len + 9. Refuses H13, H2, H10.
+ */
+int32_t kmac_build(const uint8_t *key, size_t key_len, const uint8_t destination[KMAC_DESTINATION_LEN], uint8_t direction,
+                   const uint8_t *data, size_t data_len, uint8_t *out, size_t out_len);
+
+/*
+ * Checks a unit under the session keys. destination is the ETCS ID of the receiver, who checks; direction is the bit that
+ * the unit must carry, the sender's as for kmac_build. A unit is accepted exactly when it is the one that kmac_build makes
+ * of its user data.
+ * Answers the length of the user data, 1 to 1,023; they start at byte 1 of the unit. Refuses H13, H7, H8, H9. Writes
+ * nothing.
+ */
+int32_t kmac_check(const uint8_t *unit, size_t unit_len, const uint8_t *key, size_t key_len,
+                   const uint8_t destination[KMAC_DESTINATION_LEN], uint8_t direction);
+
+/* ---- DES (FIPS 46-3) alone */
+
+/* Enciphers, or deciphers, one block under a key whose parity bits are not looked at. */
+void kmac_des_encipher(const uint8_t key[KMAC_DES_LEN], const uint8_t block[KMAC_DES_LEN], uint8_t result[KMAC_DES_LEN]);
+void kmac_des_decipher(const uint8_t key[KMAC_DES_LEN], const uint8_t block[KMAC_DES_LEN], uint8_t result[KMAC_DES_LEN]);
+
+#ifdef __cplusplus
+}
+#endif
+
+#endif
