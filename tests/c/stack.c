@@ -1,0 +1,179 @@
+/*
+ * Stack that each call needs. The call runs on a stack of its own that is painted before; the lowest byte that is no longer
+ * as painted is how deep it went. Fails if a call goes deeper than kmac.h says, or does not answer as expected.
+ */
+#include "worst.h"
+
+#include <stdio.h>
+#include <stdlib.h>
+#include <string.h>
+#include <ucontext.h>
+
+enum { STACK_LEN = 1 << 18 };
+
+static _Alignas(16) uint8_t stack[STACK_LEN];
+static ucontext_t outside, inside;
+static const uint8_t *top; /* the caller's stack pointer as it makes the call */
+
+static struct worst worst[WORST_COUNT];
+static struct worst now; /* the message on its way */
+static uint8_t unit[KMAC_UNIT_MAX], out[KMAC_UNIT_MAX], data[KMAC_DATA_MAX], key[KMAC_KEY_LEN], keys[KMAC_KEY_LEN];
+static uint8_t unsound[KMAC_STORE_LEN];
+static const uint8_t destination[KMAC_DESTINATION_LEN] = {0xe6, 0xa5, 0x4b};
+static int32_t answer;
+
+/* The frame address of this function is 16 bytes below its caller's stack pointer. */
+static __attribute__((noinline)) void enter(void)
+{
+    top = (const uint8_t *)__builtin_frame_address(0) + 16;
+}
+
+static void leave(void)
+{
+    swapcontext(&inside, &outside);
+}
+
+/* ---- the calls */
+
+static void call_begin(void)
+{
+    enter();
+    answer = kmac_begin(1, 2, 65535, now.session, out, sizeof out);
+    leave();
+}
+
+static void call_receive(void)
+{
+    enter();
+    answer = kmac_receive(now.session, now.message.bytes, now.message.length, now.store, sizeof now.store, out, sizeof out);
+    leave();
+}
+
+static void call_find(void)
+{
+    enter();
+    answer = kmac_find(now.store, sizeof now.store, worst_peer(), worst_moment());
+    leave();
+}
+
+static void call_find_unsound(void)
+{
+    enter();
+    answer = kmac_find(unsound, sizeof unsound, worst_peer(), worst_moment());
+    leave();
+}
+
+static void call_session_keys(void)
+{
+    enter();
+    answer = kmac_session_keys(key, sizeof key, data, data + 8, keys);
+    leave();
+}
+
+static void call_build(void)
+{
+    enter();
+    answer = kmac_build(key, sizeof key, destination, 1, data, sizeof data, out, sizeof out);
+    leave();
+}
+
+static void call_check(void)
+{
+    enter();
+    answer = kmac_check(unit, sizeof unit, key, sizeof key, destination, 1);
+    leave();
+}
+
+static void call_encipher(void)
+{
+    enter();
+    kmac_des_encipher(key, data, out);
+    answer = 0;
+    leave();
+}
+
+static void call_decipher(void)
+{
+    enter();
+    kmac_des_decipher(key, data, out);
+    answer = 0;
+    leave();
+}
+
+static void call_empty_store(void)
+{
+    enter();
+    answer = kmac_empty_store(now.store, sizeof now.store);
+    leave();
+}
+
+/* ---- measuring */
+
+static size_t depth_with(void (*call)(void), uint8_t paint)
+{
+    const uint8_t *low = stack;
+    memset(stack, paint, sizeof stack);
+    getcontext(&inside);
+    inside.uc_stack.ss_sp = stack;
+    inside.uc_stack.ss_size = sizeof stack;
+    inside.uc_link = NULL;
+    makecontext(&inside, call, 0);
+    swapcontext(&outside, &inside);
+    while (low < top && *low == paint)
+        low++;
+    return (size_t)(top - low);
+}
+
+/* Prints a line; exits where the need is over the limit or the answer is another. Two paints, since a call may write one of them. */
+static void measure(const char *name, void (*call)(void), const struct worst *with, int32_t expected, size_t limit)
+{
+    const uint8_t paints[] = {0xa5, 0x5a};
+    size_t deepest = 0;
+    for (size_t i = 0; i < sizeof paints; i++) {
+        now = *with;
+        size_t depth = depth_with(call, paints[i]);
+        if (answer != expected) {
+            printf("%s: answers %d and not %d\n", name, (int)answer, (int)expected);
+            exit(1);
+        }
+        if (depth > deepest)
+            deepest = depth;
+    }
+    printf("%-46s %5zu of %5zu bytes\n", name, deepest, limit);
+    if (deepest > limit || limit > KMAC_STACK_MAX) {
+        printf("%s: deeper than kmac.h says\n", name);
+        exit(1);
+    }
+}
+
+static void prepare(void)
+{
+    worst_make(worst);
+    worst_kmac(1, key);
+    for (size_t i = 0; i < sizeof data; i++)
+        data[i] = (uint8_t)(7 * i);
+    kmac_build(key, sizeof key, destination, 1, data, sizeof data, unit, sizeof unit);
+    memcpy(unsound, worst[WORST_ONE_ADD].store, sizeof unsound);
+    unsound[sizeof unsound - 1] = 1;
+}
+
+int main(void)
+{
+    const struct worst *full = &worst[WORST_DELETES];
+    prepare();
+    measure("kmac_begin", call_begin, full, 23, KMAC_STACK_BEGIN);
+    for (int i = 0; i < WORST_COUNT; i++) {
+        char name[80];
+        snprintf(name, sizeof name, "kmac_receive: %s", worst[i].name);
+        measure(name, call_receive, &worst[i], worst[i].answer, KMAC_STACK_RECEIVE);
+    }
+    measure("kmac_find", call_find, full, KMAC_STORE_KEYS, KMAC_STACK_FIND);
+    measure("kmac_find: unsound", call_find_unsound, full, KMAC_H12_STORE_UNSOUND, KMAC_STACK_FIND);
+    measure("kmac_session_keys", call_session_keys, full, 0, KMAC_STACK_SESSION_KEYS);
+    measure("kmac_build: 1,023 bytes", call_build, full, KMAC_UNIT_MAX, KMAC_STACK_BUILD);
+    measure("kmac_check: 1,032 bytes", call_check, full, KMAC_DATA_MAX, KMAC_STACK_CHECK);
+    measure("kmac_des_encipher", call_encipher, full, 0, KMAC_STACK_DES_ENCIPHER);
+    measure("kmac_des_decipher", call_decipher, full, 0, KMAC_STACK_DES_DECIPHER);
+    measure("kmac_empty_store", call_empty_store, full, 0, KMAC_STACK_EMPTY_STORE);
+    return 0;
+}

@@ -1,0 +1,40 @@
+/* The dearest messages that a key centre can send: the most requests of each kind, on the fullest store. */
+#ifndef WORST_H
+#define WORST_H
+
+#include "centre.h"
+
+/* A message, with the session and the store that it comes to, and the answer of kmac_receive. */
+struct worst {
+    const char *name;
+    uint8_t session[KMAC_SESSION_LEN];
+    uint8_t store[KMAC_STORE_LEN];
+    struct message message;
+    uint16_t next; /* the sequence number of the reply */
+    int32_t answer;
+};
+
+enum worst_index {
+    WORST_INIT,
+    WORST_ONE_ADD,
+    WORST_ADDS,
+    WORST_ADDS_FULL,
+    WORST_DELETES,
+    WORST_VALIDITIES,
+    WORST_ENTITIES,
+    WORST_DELETE_ALL,
+    WORST_END,
+    WORST_COUNT
+};
+
+/* Makes all of them, by calls of the library itself. */
+void worst_make(struct worst worst[WORST_COUNT]);
+
+/* The full store's last peer, whose only record is the last, and a moment at which every record fits. */
+uint32_t worst_peer(void);
+uint32_t worst_moment(void);
+
+/* 24 bytes of odd parity, unlike for each number. */
+void worst_kmac(unsigned number, uint8_t kmac[KMAC_KEY_LEN]);
+
+#endif
