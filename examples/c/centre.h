@@ -1,4 +1,4 @@
-/* Messages of a key centre (SUBSET-137, 5.3), built byte by byte. The examples, the tests and the benchmarks send them to the module. */
+/* Messages of a key centre (SUBSET-137, 5.3), built byte by byte, for the example, the tests and the benchmarks. */
 #ifndef CENTRE_H
 #define CENTRE_H
 

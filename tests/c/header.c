@@ -21,7 +21,8 @@ static int32_t (*const begin)(uint32_t, uint32_t, uint16_t, uint8_t *, uint8_t *
 static int32_t (*const receive)(uint8_t *, const uint8_t *, size_t, uint8_t *, size_t, uint8_t *, size_t) = kmac_receive;
 static int32_t (*const find)(const uint8_t *, size_t, uint32_t, uint32_t) = kmac_find;
 static int32_t (*const session_keys)(const uint8_t *, size_t, const uint8_t *, const uint8_t *, uint8_t *) = kmac_session_keys;
-static int32_t (*const build)(const uint8_t *, size_t, const uint8_t *, uint8_t, const uint8_t *, size_t, uint8_t *, size_t) = kmac_build;
+static int32_t (*const build)(const uint8_t *, size_t, const uint8_t *, uint8_t, const uint8_t *, size_t, uint8_t *,
+                              size_t) = kmac_build;
 static int32_t (*const check)(const uint8_t *, size_t, const uint8_t *, size_t, const uint8_t *, uint8_t) = kmac_check;
 static void (*const encipher)(const uint8_t *, const uint8_t *, uint8_t *) = kmac_des_encipher;
 static void (*const decipher)(const uint8_t *, const uint8_t *, uint8_t *) = kmac_des_decipher;

@@ -1,0 +1,263 @@
+/*
+ * Times the library beside the same work over OpenSSL's and nettle's DES and beside the second program, in one process.
+ * What the contenders of a row make is compared before anything is timed. Rounds are interleaved: each round times every
+ * contender of a row once, so that a slow moment of the machine falls on all. A time is the median of the rounds.
+ */
+#define _POSIX_C_SOURCE 199309L
+#include "others.h"
+#include "worst.h"
+
+#include <stdio.h>
+#include <stdlib.h>
+#include <string.h>
+#include <time.h>
+
+enum { ROUNDS = 301, ROUND_NS = 300000 };
+
+static const double QUIET = 0.25; /* the widest spread of a run that counts */
+
+/* ---- the second program (bench/reference) */
+
+int32_t reference_receive(uint32_t own, uint32_t peer, uint16_t next, uint16_t expected, const uint8_t *message,
+                          size_t message_len, uint8_t *store, size_t store_len, uint8_t *out, size_t out_len);
+int32_t reference_find(const uint8_t *store, size_t store_len, uint32_t peer, uint32_t t);
+int32_t reference_session_keys(const uint8_t *kmac, const uint8_t *ra, const uint8_t *rb, uint8_t *keys);
+int32_t reference_build(const uint8_t *key, const uint8_t *destination, uint8_t direction, const uint8_t *data,
+                        size_t data_len, uint8_t *out, size_t out_len);
+int32_t reference_check(const uint8_t *unit, size_t unit_len, const uint8_t *key, const uint8_t *destination,
+                        uint8_t direction);
+
+/* ---- inputs, and what a contender makes */
+
+static struct worst worst[WORST_COUNT];
+static const struct worst *now; /* the message of a row */
+static uint8_t unsound[KMAC_STORE_LEN], key[KMAC_KEY_LEN], data[KMAC_DATA_MAX], unit[KMAC_UNIT_MAX];
+static const uint8_t destination[KMAC_DESTINATION_LEN] = {0xe6, 0xa5, 0x4b};
+
+static struct made {
+    int32_t answer;
+    uint8_t out[KMAC_OUT_LEN];
+    uint8_t store[KMAC_STORE_LEN];
+} made;
+
+static void prepare(void)
+{
+    worst_make(worst);
+    worst_kmac(1, key);
+    for (size_t i = 0; i < sizeof data; i++)
+        data[i] = (uint8_t)(7 * i);
+    kmac_build(key, sizeof key, destination, 1, data, sizeof data, unit, sizeof unit);
+    /* Unsound by its very last byte, the last that is looked at. */
+    memcpy(unsound, worst[WORST_ONE_ADD].store, sizeof unsound);
+    unsound[sizeof unsound - 1] = 1;
+}
+
+/* ---- contenders: data units */
+
+static void check_kmac(void) { made.answer = kmac_check(unit, sizeof unit, key, sizeof key, destination, 1); }
+static void check_openssl(void) { made.answer = others_check(&over_openssl, unit, sizeof unit, key, destination, 1); }
+static void check_nettle(void) { made.answer = others_check(&over_nettle, unit, sizeof unit, key, destination, 1); }
+static void check_reference(void) { made.answer = reference_check(unit, sizeof unit, key, destination, 1); }
+
+static void build_kmac(void)
+{
+    made.answer = kmac_build(key, sizeof key, destination, 1, data, sizeof data, made.out, sizeof made.out);
+}
+static void build_openssl(void) { made.answer = others_build(&over_openssl, key, destination, 1, data, sizeof data, made.out); }
+static void build_nettle(void) { made.answer = others_build(&over_nettle, key, destination, 1, data, sizeof data, made.out); }
+static void build_reference(void)
+{
+    made.answer = reference_build(key, destination, 1, data, sizeof data, made.out, sizeof made.out);
+}
+
+static void keys_kmac(void) { made.answer = kmac_session_keys(key, sizeof key, data, data + 8, made.out); }
+static void keys_openssl(void) { others_session_keys(&over_openssl, key, data, data + 8, made.out); }
+static void keys_nettle(void) { others_session_keys(&over_nettle, key, data, data + 8, made.out); }
+static void keys_reference(void) { made.answer = reference_session_keys(key, data, data + 8, made.out); }
+
+static void block_kmac(void) { kmac_des_encipher(key, data, made.out); }
+static void block_openssl(void) { over_openssl.encipher(key, data, made.out); }
+static void block_nettle(void) { over_nettle.encipher(key, data, made.out); }
+
+/* ---- contenders: the store. Each receive has its store copied back first, which is timed with it. */
+
+static uint8_t session[KMAC_SESSION_LEN];
+
+static uint32_t number_at(const uint8_t *bytes, size_t length)
+{
+    uint32_t number = 0;
+    for (size_t i = 0; i < length; i++)
+        number = number << 8 | bytes[i];
+    return number;
+}
+
+static void receive_kmac(void)
+{
+    const struct message *m = &now->message;
+    memcpy(session, now->session, sizeof session);
+    memcpy(made.store, now->store, sizeof made.store);
+    made.answer = kmac_receive(session, m->bytes, m->length, made.store, sizeof made.store, made.out, sizeof made.out);
+}
+
+/* Identities and numbers of the open session, as the session init and the message itself have them. */
+static void receive_reference(void)
+{
+    const struct message *m = &now->message;
+    memcpy(made.store, now->store, sizeof made.store);
+    made.answer = reference_receive(number_at(m->bytes + 5, 4), number_at(m->bytes + 9, 4), now->next,
+                                    (uint16_t)number_at(m->bytes + 17, 2), m->bytes, m->length, made.store,
+                                    sizeof made.store, made.out, sizeof made.out);
+}
+
+static void copy_store(void) { memcpy(made.store, now->store, sizeof made.store); }
+
+static void find_kmac(void) { made.answer = kmac_find(now->store, KMAC_STORE_LEN, worst_peer(), worst_moment()); }
+static void find_reference(void) { made.answer = reference_find(now->store, KMAC_STORE_LEN, worst_peer(), worst_moment()); }
+static void sound_kmac(void) { made.answer = kmac_find(unsound, KMAC_STORE_LEN, worst_peer(), worst_moment()); }
+static void sound_reference(void) { made.answer = reference_find(unsound, KMAC_STORE_LEN, worst_peer(), worst_moment()); }
+
+/* ---- rows */
+
+enum { LIBRARY, OPENSSL, NETTLE, SECOND, CONTENDERS };
+
+static const char *const contenders[CONTENDERS] = {"libkmac", "OpenSSL", "nettle", "second program"};
+
+struct row {
+    const char *name; /* of the message, where there is none */
+    void (*run[CONTENDERS])(void);
+    int message;
+};
+
+static const struct row rows[] = {
+    {"check a unit of 1,032 bytes", {check_kmac, check_openssl, check_nettle, check_reference}, WORST_DELETES},
+    {"build a unit of 1,032 bytes", {build_kmac, build_openssl, build_nettle, build_reference}, WORST_DELETES},
+    {"session keys", {keys_kmac, keys_openssl, keys_nettle, keys_reference}, WORST_DELETES},
+    {"DES, key set-up and one block", {block_kmac, block_openssl, block_nettle, NULL}, WORST_DELETES},
+    {NULL, {receive_kmac, NULL, NULL, receive_reference}, WORST_ONE_ADD},
+    {NULL, {receive_kmac, NULL, NULL, receive_reference}, WORST_ADDS},
+    {NULL, {receive_kmac, NULL, NULL, receive_reference}, WORST_ADDS_FULL},
+    {NULL, {receive_kmac, NULL, NULL, receive_reference}, WORST_DELETES},
+    {NULL, {receive_kmac, NULL, NULL, receive_reference}, WORST_VALIDITIES},
+    {NULL, {receive_kmac, NULL, NULL, receive_reference}, WORST_ENTITIES},
+    {NULL, {receive_kmac, NULL, NULL, receive_reference}, WORST_DELETE_ALL},
+    {"find, last peer of 64 keys", {find_kmac, NULL, NULL, find_reference}, WORST_DELETES},
+    {"soundness: find, last byte wrong", {sound_kmac, NULL, NULL, sound_reference}, WORST_DELETES},
+    {"copy of the store, in each receive", {copy_store, NULL, NULL, NULL}, WORST_DELETES},
+};
+
+static const char *name_of(const struct row *row)
+{
+    return row->name ? row->name : worst[row->message].name;
+}
+
+/* Every contender of a row must make what the library makes. */
+static void compare(const struct row *row)
+{
+    static struct made expected;
+    for (int i = 0; i < CONTENDERS; i++) {
+        if (!row->run[i])
+            continue;
+        memset(&made, 0, sizeof made);
+        row->run[i]();
+        if (i == LIBRARY)
+            expected = made;
+        if (memcmp(&made, &expected, sizeof made) != 0) {
+            printf("%s: %s makes something else\n", name_of(row), contenders[i]);
+            exit(1);
+        }
+    }
+}
+
+/* ---- timing */
+
+static double seconds_now(void)
+{
+    struct timespec t;
+    clock_gettime(CLOCK_MONOTONIC, &t);
+    return (double)t.tv_sec + 1e-9 * (double)t.tv_nsec;
+}
+
+/* Nanoseconds for one of count runs. */
+static double time_of(void (*run)(void), long count)
+{
+    double start = seconds_now();
+    for (long i = 0; i < count; i++)
+        run();
+    return 1e9 * (seconds_now() - start) / (double)count;
+}
+
+/* Runs that fill one round. */
+static long count_of(void (*run)(void))
+{
+    long count = 1;
+    while (time_of(run, count) * (double)count < ROUND_NS)
+        count *= 2;
+    return count;
+}
+
+static int by_size(const void *a, const void *b)
+{
+    double x = *(const double *)a, y = *(const double *)b;
+    return (x > y) - (x < y);
+}
+
+/* The median of each contender. Gives the widest spread: the distance of the quartiles as a part of the median. */
+static double measure(const struct row *row, double median[CONTENDERS])
+{
+    static double times[CONTENDERS][ROUNDS];
+    long count[CONTENDERS];
+    double widest = 0;
+    for (int i = 0; i < CONTENDERS; i++)
+        count[i] = row->run[i] ? count_of(row->run[i]) : 0;
+    for (int round = 0; round < ROUNDS; round++)
+        for (int i = 0; i < CONTENDERS; i++)
+            if (row->run[i])
+                times[i][round] = time_of(row->run[i], count[i]);
+    for (int i = 0; i < CONTENDERS; i++) {
+        if (!row->run[i])
+            continue;
+        qsort(times[i], ROUNDS, sizeof times[i][0], by_size);
+        median[i] = times[i][ROUNDS / 2];
+        double spread = (times[i][3 * ROUNDS / 4] - times[i][ROUNDS / 4]) / median[i];
+        if (spread > widest)
+            widest = spread;
+    }
+    return widest;
+}
+
+static void print_cells(const struct row *row, const double median[CONTENDERS])
+{
+    for (int i = 0; i < CONTENDERS; i++)
+        if (row->run[i])
+            printf(" %.0f |", median[i]);
+        else
+            printf(" |");
+    for (int i = OPENSSL; i < CONTENDERS; i++)
+        if (row->run[i])
+            printf(" %.2f |", median[LIBRARY] / median[i]);
+        else
+            printf(" |");
+}
+
+int main(void)
+{
+    double busiest = 0;
+    prepare();
+    printf("| ns | libkmac | OpenSSL | nettle | second program | libkmac / OpenSSL | / nettle | / second program | spread |\n");
+    printf("|---|---|---|---|---|---|---|---|---|\n");
+    for (size_t i = 0; i < sizeof rows / sizeof rows[0]; i++) {
+        double median[CONTENDERS] = {0};
+        now = &worst[rows[i].message];
+        compare(&rows[i]);
+        double widest = measure(&rows[i], median);
+        printf("| %s |", name_of(&rows[i]));
+        print_cells(&rows[i], median);
+        printf(" %.0f %% |\n", 100 * widest);
+        fflush(stdout);
+        if (widest > busiest)
+            busiest = widest;
+    }
+    if (busiest > QUIET)
+        puts("The machine was busy: a spread is over 25 %. Run it again.");
+    return 0;
+}

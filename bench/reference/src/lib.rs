@@ -1,0 +1,133 @@
+//! The second program behind functions of C, so that one process can time it beside the library.
+//! Answers are those of the library's C interface: -n for refusal Hn, else a length or a place.
+
+use reference::session::{self, Answer, Session, OPEN};
+use reference::{authentication, store};
+use std::slice;
+
+/// # Safety
+/// `bytes` points to `length` bytes that nobody writes while the slice lives.
+unsafe fn lent<'a>(bytes: *const u8, length: usize) -> &'a [u8] {
+    slice::from_raw_parts(bytes, length)
+}
+
+/// # Safety
+/// `bytes` points to `length` bytes that nobody else uses while the slice lives.
+unsafe fn lent_mut<'a>(bytes: *mut u8, length: usize) -> &'a mut [u8] {
+    slice::from_raw_parts_mut(bytes, length)
+}
+
+fn code(answer: Result<usize, u8>) -> i32 {
+    answer.map_or_else(|house| -i32::from(house), |n| n as i32)
+}
+
+/// One message to an open session with these identities and numbers.
+///
+/// # Safety
+/// Each pointer points to as many bytes as the length behind it says, and no two overlap.
+#[no_mangle]
+pub unsafe extern "C" fn reference_receive(
+    own: u32,
+    peer: u32,
+    next: u16,
+    expected: u16,
+    message: *const u8,
+    message_len: usize,
+    store: *mut u8,
+    store_len: usize,
+    out: *mut u8,
+    out_len: usize,
+) -> i32 {
+    let open = Session {
+        state: OPEN,
+        own: own.to_be_bytes(),
+        peer: peer.to_be_bytes(),
+        next,
+        expected,
+    };
+    let message = lent(message, message_len);
+    let (_, answer) = session::receive(
+        open,
+        message,
+        lent_mut(store, store_len),
+        lent_mut(out, out_len),
+    );
+    match answer {
+        Answer::Reply(length) => code(Ok(length)),
+        Answer::Opened | Answer::Ended => 0,
+        Answer::Refused(house) => code(Err(house)),
+    }
+}
+
+/// # Safety
+/// `store` points to `store_len` bytes.
+#[no_mangle]
+pub unsafe extern "C" fn reference_find(
+    store: *const u8,
+    store_len: usize,
+    peer: u32,
+    t: u32,
+) -> i32 {
+    code(store::find(lent(store, store_len), &peer.to_be_bytes(), t))
+}
+
+/// # Safety
+/// `kmac` and `keys` point to 24 bytes each.
+#[no_mangle]
+pub unsafe extern "C" fn reference_session_keys(
+    kmac: *const u8,
+    ra: &[u8; 8],
+    rb: &[u8; 8],
+    keys: *mut u8,
+) -> i32 {
+    match authentication::session_keys(lent(kmac, authentication::KEY_LENGTH), ra, rb) {
+        Ok(made) => {
+            lent_mut(keys, made.len()).copy_from_slice(&made);
+            0
+        }
+        Err(house) => code(Err(house)),
+    }
+}
+
+/// # Safety
+/// `key` points to 24 bytes, `user` and `out` to as many as the length behind each says; `out` overlaps nothing.
+#[no_mangle]
+pub unsafe extern "C" fn reference_build(
+    key: *const u8,
+    destination: &[u8; 3],
+    direction: u8,
+    user: *const u8,
+    user_len: usize,
+    out: *mut u8,
+    out_len: usize,
+) -> i32 {
+    let key = lent(key, authentication::KEY_LENGTH);
+    let user = lent(user, user_len);
+    let out = lent_mut(out, out_len);
+    code(authentication::build(
+        key,
+        destination,
+        direction != 0,
+        user,
+        out,
+    ))
+}
+
+/// # Safety
+/// `unit` points to `unit_len` bytes and `key` to 24.
+#[no_mangle]
+pub unsafe extern "C" fn reference_check(
+    unit: *const u8,
+    unit_len: usize,
+    key: *const u8,
+    destination: &[u8; 3],
+    direction: u8,
+) -> i32 {
+    let key = lent(key, authentication::KEY_LENGTH);
+    code(authentication::check(
+        lent(unit, unit_len),
+        key,
+        destination,
+        direction != 0,
+    ))
+}
