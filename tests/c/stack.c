@@ -124,7 +124,8 @@ static size_t depth_with(void (*call)(void), uint8_t paint)
     return (size_t)(top - low);
 }
 
-/* Prints a line; exits where the need is over the limit or the answer is another. What a call writes may equal one of two paints, not both. */
+/* Prints a line; exits where the need is over the limit or the answer is another. Two paints: what a call writes may equal
+   one of them, not both. */
 static void measure(const char *name, void (*call)(void), const struct worst *with, int32_t expected, size_t limit)
 {
     const uint8_t paints[] = {0xa5, 0x5a};
