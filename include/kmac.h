@@ -20,7 +20,7 @@
  * asked.
  *
  * Overlap. A buffer that a call may write (session, out, keys, result, and store where it is not const) must not overlap
- * any other buffer of that call, in not a single byte. Buffers that a call only reads may overlap: a KMAC can be lent as a
+ * any other buffer of that call, not by a single byte. Buffers that a call only reads may overlap: a KMAC can be lent as a
  * part of the store. What the library promises is proved for buffers that keep to this, and for no others.
  *
  * Output buffers. An output buffer has at least KMAC_OUT_LEN bytes. What a call writes stands at its front; the bytes
@@ -50,11 +50,13 @@
  *     if the answer is above 0, write the copy to a second place, and switch to it only when it stands there whole;
  *     then send the reply.
  *
- * The reply goes last, so that the key centre is told of nothing that is not kept. After loss of power the host takes the
- * store that it last switched to and begins a new session. Where a store is damaged all the same so that it is no longer
- * sound, kmac_find refuses it with H12 and kmac_receive answers RESPONSE 6, which tells the key centre; its "delete all
- * keys" makes the store empty. A damage that leaves the store sound, as one of two bits in a KMAC byte, is not seen: a host
- * that fears it keeps a checksum of its own.
+ * The reply goes last, so that the key centre is told of nothing that is not kept. If the copy cannot be written, the host
+ * keeps the old store, sends nothing and closes the session by zeroing it. After loss of power it takes the store that it
+ * last switched to and begins a new session.
+ *
+ * A store that is no longer sound is found out: kmac_find refuses it with H12, and kmac_receive answers RESPONSE 6, which
+ * tells the key centre; its "delete all keys" makes the store empty. Damage that leaves the store sound, say two changed
+ * bits in one byte of a KMAC, is not found out: a host that must see it keeps a checksum of its own.
  */
 #ifndef KMAC_H
 #define KMAC_H
@@ -158,11 +160,11 @@ int32_t kmac_begin(uint32_t own, uint32_t peer, uint16_t number, uint8_t session
  * not refuse. Refuses H1, H2, H3, H4, H5. After H5 the session is closed; after any other refusal it is as before.
  * A closed session takes no more messages: begin a new one.
  *
- * A reply (NOTIF_RESPONSE) has 23 bytes and one more for each request. Byte 20 is RESPONSE, bytes 21 and 22 the number of
- * RESULTs, which stand from byte 23 on, in the order of the requests.
+ * A reply (NOTIF_RESPONSE) has 23 bytes, and one more for each RESULT. Byte 20 is RESPONSE, bytes 21 and 22 are the number
+ * of RESULTs, and these stand from byte 23 on, in the order of the requests. No key byte shows in it.
  *
  *     RESPONSE                                                               the session is then
- *     0   done: each request has its RESULT                                  open
+ *     0   done: each request has its RESULT (delete all has none)            open
  *     1   the type is none of the five commands nor end of update            open
  *     2   the length field is not message_len, or message_len is over 5,000  closed
  *     3   the sender is not the peer                                         closed
