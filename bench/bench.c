@@ -12,9 +12,9 @@
 #include <string.h>
 #include <time.h>
 
-enum { ROUNDS = 301, ROUND_NS = 300000 };
+enum { ROUNDS = 301, ROUND_NS = 300000, TRIES = 10 };
 
-static const double QUIET = 0.25; /* the widest spread of a run that counts */
+static const double QUIET = 0.15; /* the widest spread of a row that is not timed again */
 
 /* ---- the second program (bench/reference) */
 
@@ -202,7 +202,7 @@ static int by_size(const void *a, const void *b)
 }
 
 /* The median of each contender. Gives the widest spread: the distance of the quartiles as a part of the median. */
-static double measure(const struct row *row, double median[CONTENDERS])
+static double measure_once(const struct row *row, double median[CONTENDERS])
 {
     static double times[CONTENDERS][ROUNDS];
     long count[CONTENDERS];
@@ -221,6 +221,18 @@ static double measure(const struct row *row, double median[CONTENDERS])
         double spread = (times[i][3 * ROUNDS / 4] - times[i][ROUNDS / 4]) / median[i];
         if (spread > widest)
             widest = spread;
+    }
+    return widest;
+}
+
+/* A row that other work on the machine disturbed is timed again. */
+static double measure(const struct row *row, double median[CONTENDERS])
+{
+    double widest = 0;
+    for (int i = 0; i < TRIES; i++) {
+        widest = measure_once(row, median);
+        if (widest <= QUIET)
+            break;
     }
     return widest;
 }
@@ -258,6 +270,6 @@ int main(void)
             busiest = widest;
     }
     if (busiest > QUIET)
-        puts("The machine was busy: a spread is over 25 %. Run it again.");
+        puts("The machine was busy. Run it again.");
     return 0;
 }
