@@ -1,7 +1,11 @@
-/* kmac.h as C11 and as C++17: each function is there with its type, and can be linked and called from either. */
+/*
+ * kmac.h as C11 and as C++17: each function is there with its type, can be linked and called from either, and gives each
+ * refusal under its name, in the order that kmac.h says.
+ */
 #include "kmac.h"
 
 #include <stdio.h>
+#include <string.h>
 
 #ifdef __cplusplus
 #define HELD_AT_COMPILE_TIME static_assert
@@ -20,7 +24,8 @@ HELD_AT_COMPILE_TIME(KMAC_H13_KEY_LENGTH == -13, "a refusal is the negative of i
 static int32_t (*const begin)(uint32_t, uint32_t, uint16_t, uint8_t *, uint8_t *, size_t) = kmac_begin;
 static int32_t (*const receive)(uint8_t *, const uint8_t *, size_t, uint8_t *, size_t, uint8_t *, size_t) = kmac_receive;
 static int32_t (*const find)(const uint8_t *, size_t, uint32_t, uint32_t) = kmac_find;
-static int32_t (*const session_keys)(const uint8_t *, size_t, const uint8_t *, const uint8_t *, uint8_t *) = kmac_session_keys;
+static int32_t (*const session_keys)(const uint8_t *, size_t, const uint8_t *, const uint8_t *,
+                                     uint8_t *) = kmac_session_keys;
 static int32_t (*const build)(const uint8_t *, size_t, const uint8_t *, uint8_t, const uint8_t *, size_t, uint8_t *,
                               size_t) = kmac_build;
 static int32_t (*const check)(const uint8_t *, size_t, const uint8_t *, size_t, const uint8_t *, uint8_t) = kmac_check;
@@ -29,35 +34,61 @@ static void (*const decipher)(const uint8_t *, const uint8_t *, uint8_t *) = kma
 static int32_t (*const empty_store)(uint8_t *, size_t) = kmac_empty_store;
 
 static uint8_t store[KMAC_STORE_LEN], session[KMAC_SESSION_LEN], out[KMAC_OUT_LEN];
+static const uint8_t bytes[KMAC_KEY_LEN] = {0x01, 0x02, 0x04, 0x07, 0x08, 0x0b, 0x0d, 0x0e};
 
-/* Each call once, with the answer that it must give: the refusal where an empty buffer is lent. */
-static int calls_answer(void)
+/* The store is all zero bytes at first: of the right length and unsound. */
+static int store_answers(void)
 {
-    const uint8_t bytes[KMAC_KEY_LEN] = {0x13, 0x34, 0x57, 0x79, 0x9b, 0xbc, 0xdf, 0xf1};
-    uint8_t enciphered[KMAC_DES_LEN], deciphered[KMAC_DES_LEN];
-    encipher(bytes, bytes, enciphered);
-    decipher(bytes, enciphered, deciphered);
-    for (int i = 0; i < KMAC_DES_LEN; i++)
-        if (deciphered[i] != bytes[i])
-            return 0;
-    return empty_store(store, 0) == KMAC_H1_STORE_LENGTH && empty_store(store, sizeof store) == 0 &&
-           find(store, 0, 1, 1) == KMAC_H1_STORE_LENGTH && find(store, sizeof store, 1, 1) == KMAC_H11_NO_KEY &&
-           begin(1, 2, 0, session, out, 0) == KMAC_H2_OUTPUT_LENGTH &&
-           begin(1, 1, 0, session, out, sizeof out) == KMAC_H6_SAME_IDENTITY &&
-           receive(session, bytes, 0, store, 0, out, 0) == KMAC_H1_STORE_LENGTH &&
+    return find(store, 0, 1, 1) == KMAC_H1_STORE_LENGTH && find(store, sizeof store, 1, 1) == KMAC_H12_STORE_UNSOUND &&
+           empty_store(store, 0) == KMAC_H1_STORE_LENGTH && empty_store(store, sizeof store) == 0 &&
+           find(store, sizeof store, 1, 1) == KMAC_H11_NO_KEY;
+}
+
+/* The session is all zero bytes at first: closed. A message of 20 bytes that is no session init closes a waiting one. */
+static int session_answers(void)
+{
+    return receive(session, bytes, 0, store, 0, out, 0) == KMAC_H1_STORE_LENGTH &&
            receive(session, bytes, 0, store, sizeof store, out, 0) == KMAC_H2_OUTPUT_LENGTH &&
            receive(session, bytes, 0, store, sizeof store, out, sizeof out) == KMAC_H3_SESSION_CLOSED &&
-           session_keys(bytes, 0, bytes, bytes, out) == KMAC_H13_KEY_LENGTH &&
-           build(bytes, 0, bytes, 0, bytes, 0, out, 0) == KMAC_H13_KEY_LENGTH &&
-           build(bytes, sizeof bytes, bytes, 0, bytes, 0, out, 0) == KMAC_H2_OUTPUT_LENGTH &&
-           build(bytes, sizeof bytes, bytes, 0, bytes, 0, out, sizeof out) == KMAC_H10_DATA_LENGTH &&
-           check(out, 0, bytes, 0, bytes, 0) == KMAC_H13_KEY_LENGTH &&
-           check(out, 0, bytes, sizeof bytes, bytes, 0) == KMAC_H7_UNIT_LENGTH;
+           begin(1, 1, 0, session, out, 0) == KMAC_H2_OUTPUT_LENGTH &&
+           begin(1, 1, 0, session, out, sizeof out) == KMAC_H6_SAME_IDENTITY && session[0] == 0 &&
+           begin(1, 2, 0, session, out, sizeof out) == 23 &&
+           receive(session, bytes, 19, store, sizeof store, out, sizeof out) == KMAC_H4_MESSAGE_SHORT &&
+           receive(session, bytes, 20, store, sizeof store, out, sizeof out) == KMAC_H5_NO_SESSION_INIT &&
+           receive(session, bytes, 20, store, sizeof store, out, sizeof out) == KMAC_H3_SESSION_CLOSED;
+}
+
+static int unit_answers(void)
+{
+    uint8_t keys[KMAC_KEY_LEN];
+    return session_keys(bytes, 23, bytes, bytes, keys) == KMAC_H13_KEY_LENGTH &&
+           session_keys(bytes, sizeof bytes, bytes, bytes, keys) == 0 &&
+           build(keys, 23, bytes, 0, bytes, 0, out, 0) == KMAC_H13_KEY_LENGTH &&
+           build(keys, sizeof keys, bytes, 0, bytes, 0, out, 1031) == KMAC_H2_OUTPUT_LENGTH &&
+           build(keys, sizeof keys, bytes, 0, bytes, 0, out, sizeof out) == KMAC_H10_DATA_LENGTH &&
+           build(keys, sizeof keys, bytes, 2, bytes, 1, out, sizeof out) == 10 && out[0] == 11 &&
+           check(out, 8, keys, 0, bytes, 1) == KMAC_H13_KEY_LENGTH &&
+           check(out, 8, keys, sizeof keys, bytes, 1) == KMAC_H7_UNIT_LENGTH &&
+           check(out, 9, keys, sizeof keys, bytes, 1) == KMAC_H8_MAC_DIFFERS &&
+           check(out, 10, keys, sizeof keys, bytes, 0) == KMAC_H9_UNIT_CONTENTS &&
+           check(out, 10, keys, sizeof keys, bytes, 1) == 1 && out[1] == bytes[0];
+}
+
+/* The first vector of NIST SP 800-17, Table B.4. */
+static int des_answers(void)
+{
+    const uint8_t key[KMAC_DES_LEN] = {0x7c, 0xa1, 0x10, 0x45, 0x4a, 0x1a, 0x6e, 0x57};
+    const uint8_t block[KMAC_DES_LEN] = {0x01, 0xa1, 0xd6, 0xd0, 0x39, 0x77, 0x67, 0x42};
+    const uint8_t expected[KMAC_DES_LEN] = {0x69, 0x0f, 0x5b, 0x0d, 0x9a, 0x26, 0x93, 0x9b};
+    uint8_t enciphered[KMAC_DES_LEN], deciphered[KMAC_DES_LEN];
+    encipher(key, block, enciphered);
+    decipher(key, enciphered, deciphered);
+    return memcmp(enciphered, expected, sizeof expected) == 0 && memcmp(deciphered, block, sizeof block) == 0;
 }
 
 int main(void)
 {
-    if (!calls_answer()) {
+    if (!store_answers() || !session_answers() || !unit_answers() || !des_answers()) {
         puts("a call does not answer as kmac.h says");
         return 1;
     }
