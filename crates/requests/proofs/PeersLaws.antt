@@ -6,7 +6,7 @@ use Prim.Native.Nat.{ℕ, _+_, _*_, _-_, _≤_, _<_}
 use native.Mathlib.Omega.{arith}
 use lib.ListN.{length, take, drop, replicate, length-append, length-replicate, length-drop, take-append-drop}
 use lib.Seq.{length-take-le}
-use Rattle.octets.specs.Bytes.{Bytes, be16, part, splice, closed, opened}
+use Rattle.octets.specs.Bytes.{Bytes, be16, be32, part, splice, closed, opened}
 use Rattle.octets.specs.Words.{numbers, words}
 use Rattle.octets.proofs.PartLaws.{part-mid}
 use Rattle.octets.proofs.SpliceLaws.{splice-mid, closed-mid}
@@ -203,4 +203,59 @@ peers-written L s msg i at c n m f k t u v w o bm hm fits et eu ev ew =
     (eu ∙ ap (λ (x : List ℕ). splice x (12 + 44 * i + 40) (be16 f ++ be16 c))
     (et ∙ ap (r s) (part-words msg bm c at hm) ∙ ap (λ (x : List ℕ). r x (words xs)) (o .whole))))
     ∙ list-replaced L (o .pre) (o .e) (o .post) i n m f k (o .parts) xs c (sym (length-numbers msg at c)) fits
+    ∙ ap (encode L) (sym (ap (updateAt i (withPeers xs)) (o .cut) ∙ updateAt-middle (o .pre) (o .e) (o .post) (withPeers xs) i (o .parts .place)))
+
+-- ---- as many peers as before
+
+module _ (L : Limits) (pre : List Entry) (e : Entry) (post : List Entry) (i n m f k : ℕ) (p : Parts L pre e post i n m f k) (xs : List ℕ) (ek : k ≡ length xs) where
+  -- the record stays
+  same-record : keyRecord f e ≡ keyRecord f (withPeers xs e)
+  unfolding keyRecord
+  same-record =
+      ap (λ (x : ℕ). be32 (e .issuer) ++ (be32 (e .serial) ++ (e .kmac ++ (be32 (e .start) ++ (be32 (e .end) ++ (be16 f ++ be16 x)))))) (sym (p .count-is) ∙ ek)
+
+  same-parts : Parts L pre (withPeers xs e) post i n m f k
+  same-parts =
+      record {
+        long-pre = p .long-pre;
+        long = p .long;
+        long-post = p .long-post;
+        place = p .place;
+        keys = p .keys;
+        peers = p .peers;
+        first-is = p .first-is;
+        count-is = ek;
+        keys-fit = p .keys-fit;
+        peers-fit = p .peers-fit;
+        small = p .small;
+      }
+
+  list-overwritten : splice (encode L (pre ++ (e ∷ post))) (12 + 44 * L .keys + 4 * f) (words xs) ≡ encode L (pre ++ (withPeers xs e ∷ post))
+  list-overwritten =
+      let H : List ℕ = header L n m in
+      let R : List ℕ = keyRecords 0 pre in
+      let Q : List ℕ = keyRecords (f + k) post in
+      let Z : List ℕ = replicate (44 * (L .keys - n)) 0 in
+      let F : List ℕ = words (peersOf pre) in
+      let G : List ℕ = words (peersOf post) in
+      let Y : List ℕ = replicate (4 * (L .peers - m)) 0 in
+      let at : ℕ = 12 + 44 * L .keys + 4 * f in
+      let peers : m ≡ f + (k + length (peersOf post)) = p .peers in
+      let fits : m ≤ L .peers = p .peers-fit in
+      ap (λ (x : List ℕ). splice x at (words xs)) (encode-parts L pre e post i n m f k p ∙ group-peers H R (keyRecord f e) Q Z F (words (e .peers)) G Y)
+      ∙ splice-mid (((H ++ R) ++ (keyRecord f e ++ Q)) ++ (Z ++ F)) (words (e .peers)) (G ++ Y) (words xs) at (at-peers L pre e post i n m f k p xs k ek (omega arith))
+      (length-words (e .peers) ∙ ap (λ (x : ℕ). 4 * x) (sym (p .count-is) ∙ ek) ∙ sym (length-words xs))
+      ∙ sym (group-peers H R (keyRecord f e) Q Z F (words xs) G Y)
+      ∙ ap (λ (x : List ℕ). H ++ ((R ++ (x ++ Q)) ++ (Z ++ ((F ++ (words xs ++ G)) ++ Y)))) same-record
+      ∙ sym (encode-parts L pre (withPeers xs e) post i n m f k same-parts)
+
+-- what the one call leaves
+pub peers-overwritten : (L : Limits) (s msg : List ℕ) (i at c n m f k : ℕ) (t : List ℕ) → Around L s i n m f k → Bytes msg → at + 4 * c ≤ length msg → k ≡ c
+    → t ≡ splice s (12 + 44 * L .keys + 4 * f) (part msg at (4 * c))
+    → t ≡ encode L (updateAt i (withPeers (numbers msg at c)) (entries L s))
+peers-overwritten L s msg i at c n m f k t o bm hm ek et =
+    let xs : List ℕ = numbers msg at c in
+    let j : ℕ = 12 + 44 * L .keys + 4 * f in
+    et ∙ ap (splice s j) (part-words msg bm c at hm) ∙ ap (λ (x : List ℕ). splice x j (words xs)) (o .whole)
+    ∙ list-overwritten L (o .pre) (o .e) (o .post) i n m f k (o .parts) xs (ek ∙ sym (length-numbers msg at c))
     ∙ ap (encode L) (sym (ap (updateAt i (withPeers xs)) (o .cut) ∙ updateAt-middle (o .pre) (o .e) (o .post) (withPeers xs) i (o .parts .place)))

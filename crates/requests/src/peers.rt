@@ -31,7 +31,7 @@ fn replace(s: &mut [u8], i: usize, old: usize, new: usize, tail: usize, m: &[u8]
 }
 
 // Replaces the peers of record i of a sound store by the new peers that stand in m from index at.
-pub fn set_peers(s: &mut [u8], lim: Limits, i: usize, m: &[u8], at: usize, new: usize)
+fn replace_peers(s: &mut [u8], lim: Limits, i: usize, m: &[u8], at: usize, new: usize)
     requires { ⌜ sound lim (now s) ≡ true ⌝ }
     requires { ⌜ i < keyCount (now s) ⌝ }
     requires { ⌜ (peerCount (now s) - count (now s) i + new ≤ lim .peers) × (at + 4 * new ≤ length (now m)) ⌝ }
@@ -55,4 +55,22 @@ pub fn set_peers(s: &mut [u8], lim: Limits, i: usize, m: &[u8], at: usize, new: 
     put_share(s, KEYS_AT + RECORD * i + 40, first, new);
     renumber(s, KEYS_AT + RECORD * i + 44, n - i - 1, first + new);
     put_counts(s, n, held - count + new);
+}
+
+// The same, and no byte is moved where there are as many new peers as old ones.
+pub fn set_peers(s: &mut [u8], lim: Limits, i: usize, m: &[u8], at: usize, new: usize)
+    requires { ⌜ sound lim (now s) ≡ true ⌝ }
+    requires { ⌜ i < keyCount (now s) ⌝ }
+    requires { ⌜ (peerCount (now s) - count (now s) i + new ≤ lim .peers) × (at + 4 * new ≤ length (now m)) ⌝ }
+    ensures { λ _. ⌜ now (s .exit) ≡ encode lim (updateAt i (withPeers (numbers (now (m .entry)) at new)) (entries lim (now (s .entry)))) ⌝ }
+{
+    let keys = lim.keys;
+    let old = counts_at(s, i);
+    let first = old.first;
+    let count = old.count;
+    if count == new {
+        copy(s, KEYS_AT + RECORD * keys + PEER * first, m, at, PEER * new);
+        return;
+    }
+    replace_peers(s, lim, i, m, at, new);
 }
