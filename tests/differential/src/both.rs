@@ -1,0 +1,199 @@
+//! Makes a call on the library and on the second program, and compares all that it leaves.
+
+use crate::compare::{buffers, numbers, Difference};
+use crate::coverage::{Call, Coverage};
+use crate::library::{Library, SessionBytes};
+use crate::model;
+
+/// A failed call.
+pub struct Failure {
+    /// The function and what it was given.
+    pub call: String,
+    pub difference: Difference,
+}
+
+pub type Step<T = ()> = Result<T, Failure>;
+
+/// What the calls over one session hand on.
+#[derive(Clone, PartialEq, Eq, Debug)]
+pub struct World {
+    pub session: SessionBytes,
+    pub store: Vec<u8>,
+}
+
+pub struct Both {
+    pub library: Library,
+    pub calls: u64,
+    pub seen: Coverage,
+}
+
+impl Both {
+    pub fn new() -> Both {
+        Both {
+            library: Library::new(),
+            calls: 0,
+            seen: Coverage::default(),
+        }
+    }
+
+    /// Gives the answer; the world has then what both left.
+    pub fn begin(
+        &mut self,
+        world: &mut World,
+        identities: (u32, u32),
+        number: u16,
+        out: &[u8],
+    ) -> Step<i32> {
+        self.calls += 1;
+        let call = || {
+            let (own, peer) = identities;
+            format!("kmac_begin, own {own:08x}, peer {peer:08x}, number {number}")
+        };
+        let (mut session, mut written) = (world.session, out.to_vec());
+        let answer = model::begin(identities, number, &mut session, &mut written);
+        let (mut got_session, mut got_out) = (world.session, out.to_vec());
+        let got = self.library.begin(identities, number, &mut got_session, &mut got_out);
+        named(call, || {
+            numbers("answer", answer.into(), got?.into())?;
+            buffers("session", &session, &got_session)?;
+            buffers("output", &written, &got_out)
+        })?;
+        self.seen.answer(Call::Begin, answer);
+        world.session = session;
+        Ok(answer)
+    }
+
+    /// Gives the answer; the world has then what both left.
+    pub fn receive(&mut self, world: &mut World, message: &[u8], out: &[u8]) -> Step<i32> {
+        self.calls += 1;
+        let before = world.clone();
+        let mut written = out.to_vec();
+        let answer = model::receive(&mut world.session, message, &mut world.store, &mut written);
+        let (mut got_world, mut got_out) = (before.clone(), out.to_vec());
+        let got = self.library.receive(
+            &mut got_world.session,
+            message,
+            &mut got_world.store,
+            &mut got_out,
+        );
+        let call = || receive_call(&before.session, message, out.len());
+        named(call, || {
+            numbers("answer", answer.into(), got?.into())?;
+            buffers("session", &world.session, &got_world.session)?;
+            buffers("store", &world.store, &got_world.store)?;
+            buffers("output", &written, &got_out)
+        })?;
+        self.seen.received(message, answer, &written);
+        Ok(answer)
+    }
+
+    pub fn find(&mut self, store: &[u8], peer: u32, t: u32) -> Step<i32> {
+        self.calls += 1;
+        let answer = model::find(store, peer, t);
+        let got = self.library.find(store, peer, t);
+        let call = || format!("kmac_find, peer {peer:08x}, t {t:08x}");
+        named(call, || numbers("answer", answer.into(), got?.into()))?;
+        self.seen.answer(Call::Find, answer);
+        Ok(answer)
+    }
+
+    pub fn session_keys(&mut self, kmac: &[u8], ra: &[u8; 8], rb: &[u8; 8]) -> Step {
+        self.calls += 1;
+        let mut keys = [0xee; 24];
+        let answer = model::session_keys(kmac, ra, rb, &mut keys);
+        let mut got_keys = [0xee; 24];
+        let got = self.library.session_keys(kmac, ra, rb, &mut got_keys);
+        let call = || format!("kmac_session_keys, KMAC of {} bytes", kmac.len());
+        named(call, || {
+            numbers("answer", answer.into(), got?.into())?;
+            buffers("keys", &keys, &got_keys)
+        })?;
+        self.seen.answer(Call::SessionKeys, answer);
+        Ok(())
+    }
+
+    /// Gives what both left in the output buffer.
+    pub fn build(
+        &mut self,
+        key: &[u8],
+        destination: &[u8; 3],
+        direction: u8,
+        user: &[u8],
+        out: &[u8],
+    ) -> Step<Vec<u8>> {
+        self.calls += 1;
+        let mut written = out.to_vec();
+        let answer = model::build(key, destination, direction, user, &mut written);
+        let mut got_out = out.to_vec();
+        let got = self.library.build(key, destination, direction, user, &mut got_out);
+        let lengths = (key.len(), user.len(), out.len());
+        let call = || format!("kmac_build, key, data, output of {lengths:?} bytes, {direction}");
+        named(call, || {
+            numbers("answer", answer.into(), got?.into())?;
+            buffers("output", &written, &got_out)
+        })?;
+        self.seen.answer(Call::Build, answer);
+        Ok(written)
+    }
+
+    pub fn check(
+        &mut self,
+        unit: &[u8],
+        key: &[u8],
+        destination: &[u8; 3],
+        direction: u8,
+    ) -> Step<i32> {
+        self.calls += 1;
+        let answer = model::check(unit, key, destination, direction);
+        let got = self.library.check(unit, key, destination, direction);
+        let lengths = (unit.len(), key.len());
+        let call = || format!("kmac_check, unit and key of {lengths:?} bytes, {direction}");
+        named(call, || numbers("answer", answer.into(), got?.into()))?;
+        self.seen.answer(Call::Check, answer);
+        Ok(answer)
+    }
+
+    /// Enciphers a block and deciphers it.
+    pub fn des(&mut self, key: &[u8; 8], block: &[u8; 8]) -> Step {
+        for (inverse, name) in [(false, "kmac_des_encipher"), (true, "kmac_des_decipher")] {
+            self.calls += 1;
+            let result = model::des(inverse, key, block);
+            let got = self.library.des(inverse, key, block);
+            let call = || format!("{name}, key {key:02x?}, block {block:02x?}");
+            named(call, || buffers("result", &result, &got?))?;
+        }
+        Ok(())
+    }
+
+    pub fn empty_store(&mut self, store: &[u8]) -> Step {
+        self.calls += 1;
+        let (mut emptied, mut got_store) = (store.to_vec(), store.to_vec());
+        let answer = model::empty_store(&mut emptied);
+        let got = self.library.empty_store(&mut got_store);
+        let call = || format!("kmac_empty_store of {} bytes", store.len());
+        named(call, || {
+            numbers("answer", answer.into(), got?.into())?;
+            buffers("store", &emptied, &got_store)
+        })?;
+        self.seen.answer(Call::EmptyStore, answer);
+        Ok(())
+    }
+}
+
+/// Puts the call's name beside a difference.
+pub fn named(
+    call: impl FnOnce() -> String,
+    compared: impl FnOnce() -> Result<(), Difference>,
+) -> Step {
+    compared().map_err(|difference| Failure {
+        call: call(),
+        difference,
+    })
+}
+
+/// The function, the session's state and the start of the message, for whoever looks for the fault.
+pub fn receive_call(session: &SessionBytes, message: &[u8], out: usize) -> String {
+    let head: String = message.iter().take(48).map(|b| format!("{b:02x}")).collect();
+    let (state, length) = (session[0], message.len());
+    format!("kmac_receive, state {state}, output of {out} bytes, message of {length} bytes, {head}")
+}

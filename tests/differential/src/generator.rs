@@ -1,0 +1,244 @@
+//! The next call of a random sequence: most often a right one, so that deep states are reached,
+//! and else one with a fault.
+
+use reference::message::kind;
+use reference::session::{Session, OPEN, WAITING};
+use reference::store::{decode, Entry, KeyIdentifier};
+
+use crate::both::World;
+use crate::damage::damage;
+use crate::model::session_of;
+use crate::random::Random;
+use crate::stores::{other_digit, Names};
+use crate::wire::{self, Header, HEADER, LENGTH_MAX};
+
+pub enum Action {
+    Begin { identities: (u32, u32), number: u16 },
+    Message(Vec<u8>),
+    Find { peer: u32, t: u32 },
+}
+
+pub struct Generator {
+    pub random: Random,
+    pub names: Names,
+    /// The most peers of a usual request.
+    most_peers: usize,
+}
+
+/// Sequence numbers, with those around the wrap often.
+fn number(random: &mut Random) -> u16 {
+    match random.below(3) {
+        0 => random.u16(),
+        1 => random.pick(&[0, 1, 255, 256, 32767, 32768]),
+        _ => random.pick(&[65530, 65533, 65534, 65535]),
+    }
+}
+
+impl Generator {
+    pub fn new(seed: u64) -> Generator {
+        let mut random = Random::new(seed);
+        let names = Names::new(&mut random);
+        let most_peers = random.pick(&[2, 4, 9, 40]);
+        Generator {
+            random,
+            names,
+            most_peers,
+        }
+    }
+
+    /// A buffer of random bytes for the call to write to; 1,032 bytes or more most often.
+    pub fn output(&mut self) -> Vec<u8> {
+        let length = match self.random.below(40) {
+            0 => self.random.pick(&[0, 1, 23, 523, 1031]),
+            1 => 1033,
+            2 => 5000,
+            _ => 1032,
+        };
+        let fill = self.random.u8();
+        (0..length).map(|i| (i as u8).wrapping_mul(7) ^ fill).collect()
+    }
+
+    pub fn action(&mut self, world: &World) -> Action {
+        if self.random.one_in(8) {
+            return self.search(world);
+        }
+        let session = session_of(&world.session);
+        let begins = match session.state {
+            OPEN | WAITING => self.random.one_in(60),
+            _ => !self.random.one_in(4),
+        };
+        if begins {
+            return self.begin();
+        }
+        let mut message = match session.state {
+            WAITING => self.init(&session),
+            _ => self.command(&session, &world.store),
+        };
+        if self.random.one_in(7) {
+            damage(&mut self.random, &mut message);
+        }
+        Action::Message(message)
+    }
+
+    fn begin(&mut self) -> Action {
+        let own = u32::from_be_bytes(self.names.own);
+        let centre = u32::from_be_bytes(self.names.centre);
+        let other = u32::from_be_bytes(other_digit(&mut self.random, self.names.own));
+        let identities = match self.random.below(12) {
+            0 => (own, own),
+            1 => (own, other),
+            2 => (centre, own),
+            _ => (own, centre),
+        };
+        let number = number(&mut self.random);
+        Action::Begin { identities, number }
+    }
+
+    /// A moment around the start or the end of a held record, or any.
+    fn search(&mut self, world: &World) -> Action {
+        let peer = u32::from_be_bytes(self.names.peer(&mut self.random));
+        let any = self.names.moment(&mut self.random);
+        let held = decode(&world.store).unwrap_or_default();
+        if held.is_empty() || self.random.one_in(4) {
+            return Action::Find { peer, t: any };
+        }
+        let entry = &held[self.random.below(held.len())];
+        let edge = self.random.pick(&[entry.start, entry.end]);
+        let t = edge.wrapping_add(self.random.below(3) as u32).wrapping_sub(1);
+        if entry.peers.is_empty() || self.random.one_in(3) {
+            return Action::Find { peer, t };
+        }
+        let mut identity = self.random.pick(&entry.peers);
+        if self.random.one_in(4) {
+            identity = other_digit(&mut self.random, identity);
+        }
+        let peer = u32::from_be_bytes(identity);
+        Action::Find { peer, t }
+    }
+
+    fn header(&mut self, session: &Session) -> Header {
+        Header {
+            receiver: session.own,
+            sender: session.peer,
+            transaction: self.random.u32(),
+            sequence: session.expected,
+        }
+    }
+
+    /// A session init, with version 2 in its list most often.
+    fn init(&mut self, session: &Session) -> Vec<u8> {
+        let header = Header {
+            sequence: number(&mut self.random),
+            ..self.header(session)
+        };
+        let versions = match self.random.below(10) {
+            0 => vec![1, 3],
+            1 => vec![],
+            2 => vec![1, 2, 3],
+            3 => vec![3; 254].into_iter().chain([2]).collect(),
+            _ => vec![2],
+        };
+        let body = wire::init_body(&versions, self.random.u8());
+        wire::message(&header, kind::SESSION_INIT, &body)
+    }
+
+    /// A command, end of update or a type that is not supported, with a right header.
+    fn command(&mut self, session: &Session, store: &[u8]) -> Vec<u8> {
+        let header = self.header(session);
+        let held = decode(store).unwrap_or_default();
+        let kind = match self.random.below(100) {
+            0..=46 => kind::ADD_KEYS,
+            47..=62 => kind::DELETE_KEYS,
+            63..=74 => kind::UPDATE_KEY_VALIDITIES,
+            75..=90 => kind::UPDATE_KEY_ENTITIES,
+            91 => kind::DELETE_ALL_KEYS,
+            92..=93 => kind::END_OF_UPDATE,
+            _ => self.random.pick(&[5, 6, 7, 8, 9, 11, 12, 13, 14, 200, 255]),
+        };
+        let body = match kind {
+            0 | 1 | 3 | 4 => self.requests(session, kind, &held),
+            kind::SESSION_INIT => wire::init_body(&[2], 255),
+            _ => Vec::new(),
+        };
+        wire::message(&header, kind, &body)
+    }
+
+    /// A few requests, or as many as a message has room for.
+    fn requests(&mut self, session: &Session, kind: u8, held: &[Entry]) -> Vec<u8> {
+        let count = match self.random.below(20) {
+            0 => 500,
+            1 => 250,
+            2..=6 => 1,
+            _ => self.random.between(1, 12),
+        };
+        let most = if kind == kind::DELETE_KEYS { 500 } else { 250 };
+        let mut room = LENGTH_MAX - HEADER - 2;
+        let mut requests = Vec::new();
+        while requests.len() < count.min(most) {
+            let request = self.request(session, kind, held);
+            if request.len() > room {
+                break;
+            }
+            room -= request.len();
+            requests.push(request);
+        }
+        wire::body(&requests)
+    }
+
+    fn request(&mut self, session: &Session, kind: u8, held: &[Entry]) -> Vec<u8> {
+        let key = self.key(held);
+        match kind {
+            kind::ADD_KEYS => self.add(session, held),
+            kind::DELETE_KEYS => wire::k_identifier(&key),
+            kind::UPDATE_KEY_VALIDITIES => {
+                let start = self.names.moment(&mut self.random);
+                wire::k_validity(&key, start, self.names.moment(&mut self.random))
+            }
+            _ => {
+                let count = self.peer_count();
+                wire::k_entities(&key, &self.names.peers(&mut self.random, count))
+            }
+        }
+    }
+
+    /// A held key most often; else one that is close to a held one, or any.
+    fn key(&mut self, held: &[Entry]) -> KeyIdentifier {
+        if held.is_empty() || self.random.one_in(3) {
+            return self.names.identifier(&mut self.random);
+        }
+        let mut key = held[self.random.below(held.len())].key;
+        match self.random.below(10) {
+            0 => key.issuer = other_digit(&mut self.random, key.issuer),
+            1 => key.serial = other_digit(&mut self.random, key.serial),
+            _ => {}
+        }
+        key
+    }
+
+    fn add(&mut self, session: &Session, held: &[Entry]) -> Vec<u8> {
+        let count = self.peer_count();
+        let mut entry = self.names.entry(&mut self.random, count);
+        let mut recipient = session.own;
+        match self.random.below(16) {
+            0 => recipient = other_digit(&mut self.random, recipient),
+            1 => {
+                let at = self.random.below(24);
+                entry.kmac[at] ^= 1 << self.random.below(8);
+            }
+            2 => entry.kmac = self.random.array(),
+            3 => entry.key = self.key(held),
+            _ => {}
+        }
+        wire::k_struct(&recipient, &entry)
+    }
+
+    /// Few peers most often, else about as many as a store holds, or more.
+    fn peer_count(&mut self) -> usize {
+        match self.random.below(60) {
+            0 => self.random.between(250, 260),
+            1 => self.random.between(1, 256),
+            2 => self.random.pick(&[256, 257, 1000]),
+            _ => self.random.between(1, self.most_peers),
+        }
+    }
+}

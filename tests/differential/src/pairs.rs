@@ -1,0 +1,191 @@
+//! Pairs of runs on the library that differ in KMAC bytes only (document 01, "Demand 3's runs").
+//! Answers, outputs and sessions are the same, and the stores differ as the tally says. The
+//! second program has no part in this.
+
+use reference::message::{body, kind};
+
+use crate::both::{named, receive_call, Step, World};
+use crate::compare::{buffers, numbers, Compared};
+use crate::coverage::{Call, Coverage};
+use crate::generator::{Action, Generator};
+use crate::library::Library;
+use crate::random::Random;
+use crate::scene::{Scene, OUTPUT};
+use crate::sessions::start;
+use crate::stores::kmac_at;
+use crate::tally::Tally;
+use crate::wire::{self, structs_at, HEADER, KMAC_IN_STRUCT, KMAC_LENGTH, TYPE_AT};
+
+pub struct Pairs {
+    library: Library,
+    pub calls: u64,
+    pub seen: Coverage,
+    /// Messages that had other KMACs in the second run.
+    pub unlike_messages: u64,
+}
+
+/// Two worlds and what the tally says of their stores.
+struct Runs {
+    first: World,
+    second: World,
+    tally: Tally,
+}
+
+impl Pairs {
+    pub fn new() -> Pairs {
+        Pairs {
+            library: Library::new(),
+            calls: 0,
+            seen: Coverage::default(),
+            unlike_messages: 0,
+        }
+    }
+
+    /// One list of calls from its own seed, run twice.
+    pub fn pair(&mut self, seed: u64, steps: usize) -> Step {
+        let mut generator = Generator::new(seed);
+        let first = start(&mut generator);
+        let mut second = first.clone();
+        let count = usize::from(second.store[3]);
+        let places: Vec<usize> = (0..count).map(kmac_at).collect();
+        vary(&mut generator.random, &mut second.store, &places);
+        let tally = Tally::new(&first.store, &second.store);
+        let mut runs = Runs {
+            first,
+            second,
+            tally,
+        };
+        for _ in 0..steps {
+            let out = generator.output();
+            match generator.action(&runs.first) {
+                Action::Begin { identities, number } => {
+                    self.begin(&mut runs, identities, number, &out)?
+                }
+                Action::Message(message) => {
+                    let other = alike(&mut generator.random, &message);
+                    self.receive(&mut runs, &message, &other, &out)?;
+                }
+                Action::Find { peer, t } => self.find(&runs, peer, t)?,
+            }
+        }
+        Ok(())
+    }
+
+    fn begin(&mut self, runs: &mut Runs, identities: (u32, u32), number: u16, out: &[u8]) -> Step {
+        self.calls += 2;
+        let (mut out_1, mut out_2) = (out.to_vec(), out.to_vec());
+        let (first, second) = (&mut runs.first.session, &mut runs.second.session);
+        let answer_1 = self.library.begin(identities, number, first, &mut out_1);
+        let answer_2 = self.library.begin(identities, number, second, &mut out_2);
+        if let Ok(answer) = answer_1 {
+            self.seen.answer(Call::Begin, answer);
+        }
+        named(|| "kmac_begin in two runs".into(), || {
+            numbers("answer", answer_1?.into(), answer_2?.into())?;
+            buffers("output", &out_1, &out_2)?;
+            runs.compare()
+        })
+    }
+
+    fn receive(&mut self, runs: &mut Runs, message: &[u8], other: &[u8], out: &[u8]) -> Step {
+        self.calls += 2;
+        self.unlike_messages += u64::from(message != other);
+        let before = runs.first.session;
+        let (mut out_1, mut out_2) = (out.to_vec(), out.to_vec());
+        let World { session, store } = &mut runs.first;
+        let answer_1 = self.library.receive(session, message, store, &mut out_1);
+        let World { session, store } = &mut runs.second;
+        let answer_2 = self.library.receive(session, other, store, &mut out_2);
+        if let Ok(answer) = answer_1 {
+            self.seen.received(message, answer, &out_1);
+            let length = usize::try_from(answer).unwrap_or(0);
+            runs.tally.take(message, other, out_1.get(..length).unwrap_or(&[]));
+        }
+        let call = || format!("two runs, {}", receive_call(&before, message, out.len()));
+        named(call, || {
+            numbers("answer", answer_1?.into(), answer_2?.into())?;
+            buffers("output", &out_1, &out_2)?;
+            runs.compare()
+        })
+    }
+
+    fn find(&mut self, runs: &Runs, peer: u32, t: u32) -> Step {
+        self.calls += 2;
+        let answer_1 = self.library.find(&runs.first.store, peer, t);
+        let answer_2 = self.library.find(&runs.second.store, peer, t);
+        if let Ok(answer) = answer_1 {
+            self.seen.answer(Call::Find, answer);
+        }
+        let call = || format!("two runs, kmac_find, peer {peer:08x}, t {t:08x}");
+        named(call, || numbers("answer", answer_1?.into(), answer_2?.into()))
+    }
+
+    /// A control: a KMAC byte of other parity in the second run is seen in its reply, for every
+    /// bit of the KMAC.
+    pub fn other_parity_is_seen(&mut self, seed: u64) -> Step {
+        let mut scene = Scene::new(seed ^ 51);
+        let request = scene.k_struct(1);
+        let message = scene.message(kind::ADD_KEYS, &wire::body(&[request]));
+        for bit in 0..8 * KMAC_LENGTH {
+            self.calls += 2;
+            let mut other = message.clone();
+            other[HEADER + 2 + KMAC_IN_STRUCT + bit / 8] ^= 1 << (bit % 8);
+            let mut results = Vec::new();
+            for sent in [&message, &other] {
+                let mut world = scene.over(&scene.entries);
+                let mut out = OUTPUT;
+                let World { session, store } = &mut world;
+                let answer = self.library.receive(session, sent, store, &mut out);
+                let call = || receive_call(&scene.world(2).session, sent, out.len());
+                named(call, || numbers("answer", 24, answer?.into()))?;
+                results.push(out[23]);
+            }
+            named(|| "kmac_receive".into(), || buffers("RESULTs", &[0, 4], &results))?;
+        }
+        Ok(())
+    }
+}
+
+impl Runs {
+    fn compare(&self) -> Compared {
+        buffers("session", &self.first.session, &self.second.session)?;
+        self.tally.holds(&self.first.store, &self.second.store)
+    }
+}
+
+/// A well-formed add command with other KMACs, each byte of its old parity; any other message
+/// as it is.
+fn alike(random: &mut Random, message: &[u8]) -> Vec<u8> {
+    let mut other = message.to_vec();
+    if is_well_formed_add(message) {
+        let fields = structs_at(message).into_iter().map(|at| at + KMAC_IN_STRUCT);
+        vary(random, &mut other, &fields.collect::<Vec<_>>());
+    }
+    other
+}
+
+fn is_well_formed_add(message: &[u8]) -> bool {
+    message.len() >= HEADER
+        && message[TYPE_AT] == kind::ADD_KEYS
+        && body(kind::ADD_KEYS, &message[HEADER..]).is_some()
+}
+
+/// Changes about half of the KMACs at the places: one byte, or all bytes, two bits each.
+fn vary(random: &mut Random, bytes: &mut [u8], places: &[usize]) {
+    for &at in places {
+        match random.below(4) {
+            0 => {
+                let byte = at + random.below(KMAC_LENGTH);
+                flip_two(random, &mut bytes[byte]);
+            }
+            1 => bytes[at..at + KMAC_LENGTH].iter_mut().for_each(|byte| flip_two(random, byte)),
+            _ => {}
+        }
+    }
+}
+
+fn flip_two(random: &mut Random, byte: &mut u8) {
+    let bit = random.below(8);
+    let other = (bit + random.between(1, 7)) % 8;
+    *byte ^= 1 << bit | 1 << other;
+}

@@ -1,0 +1,105 @@
+//! Random sequences of begin, messages and searches, chained over one session and one store.
+
+use reference::session::{Session, OPEN};
+use reference::store::encode;
+
+use crate::both::{Both, Step, World};
+use crate::generator::{Action, Generator};
+use crate::model::bytes_of;
+use crate::stores::{unsound, FAULTS};
+
+/// One sequence from its own seed.
+pub fn sequence(both: &mut Both, seed: u64, steps: usize) -> Step {
+    let mut generator = Generator::new(seed);
+    let mut world = start(&mut generator);
+    for _ in 0..steps {
+        let odd = generator.random.below(50);
+        match odd {
+            0 => step_with_unsound_store(both, &mut generator, &mut world)?,
+            1 => step_with_store_length(both, &mut generator, &mut world)?,
+            2 if generator.random.one_in(4) => spoil(&mut generator, &mut world),
+            _ => step(both, &mut generator, &mut world)?,
+        }
+    }
+    Ok(())
+}
+
+/// A sound store and a session of any kind.
+pub fn start(generator: &mut Generator) -> World {
+    let entries = generator.names.sound(&mut generator.random);
+    let session = Session {
+        state: OPEN,
+        own: generator.names.own,
+        peer: generator.names.centre,
+        next: generator.random.u16(),
+        expected: generator.random.u16(),
+    };
+    let session = match generator.random.below(4) {
+        0 => [0; 32],
+        1 => generator.random.array(),
+        _ => bytes_of(&session),
+    };
+    World {
+        session,
+        store: encode(&entries),
+    }
+}
+
+fn step(both: &mut Both, generator: &mut Generator, world: &mut World) -> Step {
+    let action = generator.action(world);
+    act(both, generator, world, action)
+}
+
+fn act(both: &mut Both, generator: &mut Generator, world: &mut World, action: Action) -> Step {
+    let out = generator.output();
+    match action {
+        Action::Begin { identities, number } => {
+            both.begin(world, identities, number, &out)?;
+        }
+        Action::Message(message) => {
+            both.receive(world, &message, &out)?;
+        }
+        Action::Find { peer, t } => {
+            both.find(&world.store, peer, t)?;
+        }
+    }
+    Ok(())
+}
+
+/// One call on an unsound store; the store before it comes back afterwards.
+fn step_with_unsound_store(both: &mut Both, generator: &mut Generator, world: &mut World) -> Step {
+    let fault = generator.random.pick(&FAULTS);
+    let entries = generator.names.sound(&mut generator.random);
+    let store = unsound(&mut generator.random, &entries, fault);
+    step_with(both, generator, world, store)
+}
+
+/// One call on a store that is a byte too short or too long, or empty.
+fn step_with_store_length(both: &mut Both, generator: &mut Generator, world: &mut World) -> Step {
+    let mut store = world.store.clone();
+    let length = generator.random.pick(&[0, 12, 3851, 3853, 38012]);
+    store.resize(length, 0);
+    step_with(both, generator, world, store)
+}
+
+fn step_with(
+    both: &mut Both,
+    generator: &mut Generator,
+    world: &mut World,
+    store: Vec<u8>,
+) -> Step {
+    let action = generator.action(world);
+    let mut other = World {
+        session: world.session,
+        store,
+    };
+    act(both, generator, &mut other, action)?;
+    world.session = other.session;
+    Ok(())
+}
+
+/// Puts another byte somewhere in the session, its state and unused bytes among them.
+fn spoil(generator: &mut Generator, world: &mut World) {
+    let at = generator.random.pick(&[0, 1, 2, 3, 4, 5, 9, 13, 14, 18, 31]);
+    world.session[at] = generator.random.u8();
+}
