@@ -52,7 +52,9 @@ impl Both {
         let (mut session, mut written) = (world.session, out.to_vec());
         let answer = model::begin(identities, number, &mut session, &mut written);
         let (mut got_session, mut got_out) = (world.session, out.to_vec());
-        let got = self.library.begin(identities, number, &mut got_session, &mut got_out);
+        let got = self
+            .library
+            .begin(identities, number, &mut got_session, &mut got_out);
         named(call, || {
             numbers("answer", answer.into(), got?.into())?;
             buffers("session", &session, &got_session)?;
@@ -125,7 +127,9 @@ impl Both {
         let mut written = out.to_vec();
         let answer = model::build(key, destination, direction, user, &mut written);
         let mut got_out = out.to_vec();
-        let got = self.library.build(key, destination, direction, user, &mut got_out);
+        let got = self
+            .library
+            .build(key, destination, direction, user, &mut got_out);
         let lengths = (key.len(), user.len(), out.len());
         let call = || format!("kmac_build, key, data, output of {lengths:?} bytes, {direction}");
         named(call, || {
@@ -193,7 +197,11 @@ pub fn named(
 
 /// The function, the session's state and the start of the message, for whoever looks for the fault.
 pub fn receive_call(session: &SessionBytes, message: &[u8], out: usize) -> String {
-    let head: String = message.iter().take(48).map(|b| format!("{b:02x}")).collect();
+    let head: String = message
+        .iter()
+        .take(48)
+        .map(|b| format!("{b:02x}"))
+        .collect();
     let (state, length) = (session[0], message.len());
     format!("kmac_receive, state {state}, output of {out} bytes, message of {length} bytes, {head}")
 }

@@ -28,6 +28,10 @@ pub enum Mark {
     Response(u8),
     /// A message type and a RESULT.
     Result(u8, u8),
+    /// A message with other KMACs in the second of two runs.
+    OtherKmacs,
+    /// A call after which two runs held a key unlike.
+    HeldUnlike,
 }
 
 impl fmt::Display for Mark {
@@ -39,6 +43,8 @@ impl fmt::Display for Mark {
             Mark::Ended => write!(f, "session ended"),
             Mark::Response(response) => write!(f, "RESPONSE {response}"),
             Mark::Result(kind, result) => write!(f, "RESULT {result} of type {kind}"),
+            Mark::OtherKmacs => write!(f, "message with other KMACs"),
+            Mark::HeldUnlike => write!(f, "key held unlike"),
         }
     }
 }
@@ -69,7 +75,9 @@ impl Coverage {
             let opened = kind == kind::SESSION_INIT;
             return self.see(if opened { Mark::Opened } else { Mark::Ended });
         }
-        self.see(Mark::Response(out[20]));
+        if let Some(&response) = out.get(20) {
+            self.see(Mark::Response(response));
+        }
         for &result in out.get(23..length).unwrap_or_default() {
             self.see(Mark::Result(kind, result));
         }
@@ -84,7 +92,9 @@ impl Coverage {
     pub fn summary(&self, required: &[Mark]) -> String {
         let count = |mark: &Mark| self.0.get(mark).copied().unwrap_or(0);
         let rarest = required.iter().min_by_key(|&mark| count(mark));
-        let rarest = rarest.map_or(String::new(), |mark| format!("{mark}, {} times", count(mark)));
+        let rarest = rarest.map_or(String::new(), |mark| {
+            format!("{mark}, {} times", count(mark))
+        });
         format!("all {} answers seen, the rarest {rarest}", required.len())
     }
 }
@@ -101,7 +111,7 @@ fn results(kind: u8, results: &[u8]) -> Vec<Mark> {
 }
 
 /// What begin, receive and find can answer from sound stores of the right length.
-pub fn of_pairs() -> Vec<Mark> {
+fn of_sound_stores() -> Vec<Mark> {
     let responses = [0, 1, 2, 3, 4, 5, 9, 11].map(Mark::Response);
     [
         refusals(Call::Begin, &[2, 6]),
@@ -117,10 +127,15 @@ pub fn of_pairs() -> Vec<Mark> {
     .concat()
 }
 
+pub fn of_pairs() -> Vec<Mark> {
+    let unlike = vec![Mark::OtherKmacs, Mark::HeldUnlike];
+    [of_sound_stores(), unlike].concat()
+}
+
 /// What they can answer from any store.
 pub fn of_sessions() -> Vec<Mark> {
     [
-        of_pairs(),
+        of_sound_stores(),
         vec![Mark::Response(6)],
         refusals(Call::Receive, &[1]),
         refusals(Call::Find, &[1, 12]),
@@ -156,7 +171,10 @@ mod tests {
             let mut seen = Coverage::default();
             let others = of_sessions().into_iter().filter(|&mark| mark != unseen);
             others.for_each(|mark| seen.see(mark));
-            assert!(seen.missing(&of_sessions()).iter().all(|&mark| mark == unseen));
+            assert!(seen
+                .missing(&of_sessions())
+                .iter()
+                .all(|&mark| mark == unseen));
             assert!(!seen.missing(&of_sessions()).is_empty());
         }
     }
@@ -183,7 +201,10 @@ mod tests {
         let mut seen = Coverage::default();
         seen.answer(Call::Find, -12);
         seen.answer(Call::Find, 3);
-        assert_eq!(seen.missing(&[Mark::Refused(Call::Find, 12), Mark::Given(Call::Find)]), []);
+        assert_eq!(
+            seen.missing(&[Mark::Refused(Call::Find, 12), Mark::Given(Call::Find)]),
+            []
+        );
         assert_eq!(seen.missing(&[Mark::Refused(Call::Find, 11)]).len(), 1);
     }
 }

@@ -52,7 +52,13 @@ fn in_size(random: &mut Random, message: &mut Vec<u8>) {
 
 fn in_header(random: &mut Random, message: &mut [u8]) {
     let more = random.one_in(2);
-    let step = |byte: u8| if more { byte.wrapping_add(1) } else { byte.wrapping_sub(1) };
+    let step = |byte: u8| {
+        if more {
+            byte.wrapping_add(1)
+        } else {
+            byte.wrapping_sub(1)
+        }
+    };
     match random.below(6) {
         0 => message[3] = step(message[3]),
         1 => message[VERSION_AT] = random.pick(&[0, 1, 3, 0x82, 255]),

@@ -48,7 +48,10 @@ fn refusal_orders(both: &mut Both, seed: u64) -> Step {
 impl Scene {
     /// 500 requests to delete, the first of them for the held keys.
     fn long_delete(&mut self) -> Vec<u8> {
-        let held = self.entries.iter().map(|entry| wire::k_identifier(&entry.key));
+        let held = self
+            .entries
+            .iter()
+            .map(|entry| wire::k_identifier(&entry.key));
         let mut requests: Vec<Vec<u8>> = held.collect();
         requests.resize(500, vec![0x77; 8]);
         self.message(kind::DELETE_KEYS, &wire::body(&requests))

@@ -55,7 +55,9 @@ impl Generator {
             _ => 1032,
         };
         let fill = self.random.u8();
-        (0..length).map(|i| (i as u8).wrapping_mul(7) ^ fill).collect()
+        (0..length)
+            .map(|i| (i as u8).wrapping_mul(7) ^ fill)
+            .collect()
     }
 
     pub fn action(&mut self, world: &World) -> Action {
@@ -104,7 +106,9 @@ impl Generator {
         }
         let entry = &held[self.random.below(held.len())];
         let edge = self.random.pick(&[entry.start, entry.end]);
-        let t = edge.wrapping_add(self.random.below(3) as u32).wrapping_sub(1);
+        let t = edge
+            .wrapping_add(self.random.below(3) as u32)
+            .wrapping_sub(1);
         if entry.peers.is_empty() || self.random.one_in(3) {
             return Action::Find { peer, t };
         }

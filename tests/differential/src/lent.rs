@@ -79,7 +79,12 @@ mod tests {
     #[test]
     fn a_wrong_byte_on_either_side_is_seen() {
         for length in LENGTHS {
-            let ends = [-1, -(GUARD as isize), length as isize, (length + GUARD - 1) as isize];
+            let ends = [
+                -1,
+                -(GUARD as isize),
+                length as isize,
+                (length + GUARD - 1) as isize,
+            ];
             for at in ends {
                 let mut lent = Lent::new(&vec![7; length], 5);
                 let i = (lent.start as isize + at) as usize;

@@ -10,7 +10,14 @@ pub const SESSION_LENGTH: usize = 32;
 pub type SessionBytes = [u8; SESSION_LENGTH];
 
 extern "C" {
-    fn kmac_begin(own: u32, peer: u32, number: u16, session: *mut u8, out: *mut u8, len: usize) -> i32;
+    fn kmac_begin(
+        own: u32,
+        peer: u32,
+        number: u16,
+        session: *mut u8,
+        out: *mut u8,
+        len: usize,
+    ) -> i32;
     fn kmac_receive(
         session: *mut u8,
         message: *const u8,
@@ -202,7 +209,11 @@ impl Library {
         let (lent_key, lent_block) = (self.lend(key), self.lend(block));
         let mut result = [0xee; 8];
         let mut lent_result = self.lend(&result);
-        let (k, b, r) = (lent_key.as_ptr(), lent_block.as_ptr(), lent_result.as_mut_ptr());
+        let (k, b, r) = (
+            lent_key.as_ptr(),
+            lent_block.as_ptr(),
+            lent_result.as_mut_ptr(),
+        );
         // SAFETY: eight bytes stand behind each pointer.
         unsafe {
             match inverse {

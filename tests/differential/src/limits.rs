@@ -36,7 +36,13 @@ fn request_counts(both: &mut Both, seed: u64) -> Step {
     ];
     for (kind, request) in requests {
         for count in COUNTS {
-            for there in [count.saturating_sub(1), count, count.saturating_add(1), 1, 0] {
+            for there in [
+                count.saturating_sub(1),
+                count,
+                count.saturating_add(1),
+                1,
+                0,
+            ] {
                 let list = vec![request.clone(); usize::from(there)];
                 let body = wire::counted(count, &list);
                 let mut world = scene.over(&scene.entries);
@@ -64,7 +70,13 @@ fn peer_counts(both: &mut Both, seed: u64) -> Step {
                 let after = wire::k_identifier(&key);
                 let mut world = scene.over(&scene.entries);
                 send(both, &scene, &mut world, kind, &wire::body(&[request]))?;
-                send(both, &scene, &mut world, kind::DELETE_KEYS, &wire::body(&[after]))?;
+                send(
+                    both,
+                    &scene,
+                    &mut world,
+                    kind::DELETE_KEYS,
+                    &wire::body(&[after]),
+                )?;
             }
         }
     }
@@ -81,7 +93,13 @@ fn full_of_keys(both: &mut Both, seed: u64) -> Step {
             let adds: Vec<Vec<u8>> = (0..3).map(|_| scene.k_struct(1)).collect();
             send(both, &scene, &mut world, kind::ADD_KEYS, &wire::body(&adds))?;
             let delete = wire::k_identifier(&entries[place].key);
-            send(both, &scene, &mut world, kind::DELETE_KEYS, &wire::body(&[delete]))?;
+            send(
+                both,
+                &scene,
+                &mut world,
+                kind::DELETE_KEYS,
+                &wire::body(&[delete]),
+            )?;
             let again = wire::k_struct(&scene.names.own, &entries[place]);
             let adds = [again, scene.k_struct(1)];
             send(both, &scene, &mut world, kind::ADD_KEYS, &wire::body(&adds))?;
@@ -97,7 +115,14 @@ fn full_of_peers(both: &mut Both, seed: u64) -> Step {
         let entries = scene.names.filled(&mut scene.random, keys);
         for place in 0..keys {
             let old = entries[place].peers.len();
-            for count in [1, old.saturating_sub(1), old, old + 1, PEERS_MAX, PEERS_MAX + 1] {
+            for count in [
+                1,
+                old.saturating_sub(1),
+                old,
+                old + 1,
+                PEERS_MAX,
+                PEERS_MAX + 1,
+            ] {
                 replace(both, &mut scene, &entries, place, count.max(1))?;
             }
         }
@@ -116,8 +141,18 @@ fn replace(
     let mut world = scene.over(entries);
     let peers = scene.names.peers(&mut scene.random, count);
     let request = wire::k_entities(&entries[place].key, &peers);
-    send(both, scene, &mut world, kind::UPDATE_KEY_ENTITIES, &wire::body(&[request]))?;
+    send(
+        both,
+        scene,
+        &mut world,
+        kind::UPDATE_KEY_ENTITIES,
+        &wire::body(&[request]),
+    )?;
     let free = PEERS_MAX - usize::from(u16::from_be_bytes([world.store[6], world.store[7]]));
-    let adds = [scene.k_struct(free + 1), scene.k_struct(free.max(1)), scene.k_struct(1)];
+    let adds = [
+        scene.k_struct(free + 1),
+        scene.k_struct(free.max(1)),
+        scene.k_struct(1),
+    ];
     send(both, scene, &mut world, kind::ADD_KEYS, &wire::body(&adds))
 }

@@ -45,7 +45,9 @@ fn main() -> ExitCode {
         return ExitCode::from(2);
     };
     let mut tests = Tests::new(options.seed);
-    let compared = tests.systematic().and_then(|()| tests.rounds(options.seconds));
+    let compared = tests
+        .systematic()
+        .and_then(|()| tests.rounds(options.seconds));
     match compared {
         Ok(()) => tests.conclude(),
         Err(failure) => {
@@ -106,9 +108,11 @@ impl Tests {
     }
 
     fn tell(&self, failure: &Failure) {
-        let (seed, round, calls) = (self.seed, self.round, self.calls());
-        println!("differential: seed {seed}, round {round}, call {calls}: {}", failure.call);
+        let (round, calls) = (self.round, self.calls());
+        let seed = self.seed.wrapping_add(round);
         println!("differential: {}", failure.difference);
+        println!("differential: at {}", failure.call);
+        println!("differential: call {calls}, round {round}; first round of --seed {seed}");
     }
 
     /// The summary; a failure where an answer was never seen.
@@ -121,7 +125,11 @@ impl Tests {
         ];
         let blind: Vec<String> = parts.iter().filter_map(blind_spots).collect();
         if !blind.is_empty() {
-            println!("differential: seed {}: never seen: {}", self.seed, blind.join("; "));
+            println!(
+                "differential: seed {}: never seen: {}",
+                self.seed,
+                blind.join("; ")
+            );
             return ExitCode::FAILURE;
         }
         println!(

@@ -97,18 +97,23 @@ pub fn session_keys(kmac: &[u8], ra: &[u8; 8], rb: &[u8; 8], keys: &mut [u8; 24]
     }
 }
 
-pub fn build(
-    key: &[u8],
-    destination: &[u8; 3],
-    direction: u8,
-    user: &[u8],
-    out: &mut [u8],
-) -> i32 {
-    code(authentication::build(key, destination, direction != 0, user, out))
+pub fn build(key: &[u8], destination: &[u8; 3], direction: u8, user: &[u8], out: &mut [u8]) -> i32 {
+    code(authentication::build(
+        key,
+        destination,
+        direction != 0,
+        user,
+        out,
+    ))
 }
 
 pub fn check(unit: &[u8], key: &[u8], destination: &[u8; 3], direction: u8) -> i32 {
-    code(authentication::check(unit, key, destination, direction != 0))
+    code(authentication::check(
+        unit,
+        key,
+        destination,
+        direction != 0,
+    ))
 }
 
 pub fn des(inverse: bool, key: &[u8; 8], block: &[u8; 8]) -> [u8; 8] {

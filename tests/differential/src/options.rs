@@ -42,7 +42,10 @@ mod tests {
         let seconds = None;
         assert_eq!(read(""), Some(Options { seed, seconds }));
         let seconds = Some(60);
-        assert_eq!(read("--seconds 60 --seed 7"), Some(Options { seed: 7, seconds }));
+        assert_eq!(
+            read("--seconds 60 --seed 7"),
+            Some(Options { seed: 7, seconds })
+        );
     }
 
     #[test]

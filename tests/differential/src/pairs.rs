@@ -3,10 +3,11 @@
 //! second program has no part in this.
 
 use reference::message::{body, kind};
+use reference::session::OPEN;
 
 use crate::both::{named, receive_call, Step, World};
 use crate::compare::{buffers, numbers, Compared};
-use crate::coverage::{Call, Coverage};
+use crate::coverage::{Call, Coverage, Mark};
 use crate::generator::{Action, Generator};
 use crate::library::Library;
 use crate::random::Random;
@@ -20,8 +21,6 @@ pub struct Pairs {
     library: Library,
     pub calls: u64,
     pub seen: Coverage,
-    /// Messages that had other KMACs in the second run.
-    pub unlike_messages: u64,
 }
 
 /// Two worlds and what the tally says of their stores.
@@ -37,7 +36,6 @@ impl Pairs {
             library: Library::new(),
             calls: 0,
             seen: Coverage::default(),
-            unlike_messages: 0,
         }
     }
 
@@ -80,16 +78,21 @@ impl Pairs {
         if let Ok(answer) = answer_1 {
             self.seen.answer(Call::Begin, answer);
         }
-        named(|| "kmac_begin in two runs".into(), || {
-            numbers("answer", answer_1?.into(), answer_2?.into())?;
-            buffers("output", &out_1, &out_2)?;
-            runs.compare()
-        })
+        named(
+            || "kmac_begin in two runs".into(),
+            || {
+                numbers("answer", answer_1?.into(), answer_2?.into())?;
+                buffers("output", &out_1, &out_2)?;
+                runs.compare()
+            },
+        )
     }
 
     fn receive(&mut self, runs: &mut Runs, message: &[u8], other: &[u8], out: &[u8]) -> Step {
         self.calls += 2;
-        self.unlike_messages += u64::from(message != other);
+        if message != other {
+            self.seen.see(Mark::OtherKmacs);
+        }
         let before = runs.first.session;
         let (mut out_1, mut out_2) = (out.to_vec(), out.to_vec());
         let World { session, store } = &mut runs.first;
@@ -99,7 +102,11 @@ impl Pairs {
         if let Ok(answer) = answer_1 {
             self.seen.received(message, answer, &out_1);
             let length = usize::try_from(answer).unwrap_or(0);
-            runs.tally.take(message, other, out_1.get(..length).unwrap_or(&[]));
+            let reply = out_1.get(..length).unwrap_or_default();
+            runs.tally.take(message, other, reply);
+        }
+        if runs.tally.has_unlike() {
+            self.seen.see(Mark::HeldUnlike);
         }
         let call = || format!("two runs, {}", receive_call(&before, message, out.len()));
         named(call, || {
@@ -117,7 +124,9 @@ impl Pairs {
             self.seen.answer(Call::Find, answer);
         }
         let call = || format!("two runs, kmac_find, peer {peer:08x}, t {t:08x}");
-        named(call, || numbers("answer", answer_1?.into(), answer_2?.into()))
+        named(call, || {
+            numbers("answer", answer_1?.into(), answer_2?.into())
+        })
     }
 
     /// A control: a KMAC byte of other parity in the second run is seen in its reply, for every
@@ -127,22 +136,33 @@ impl Pairs {
         let request = scene.k_struct(1);
         let message = scene.message(kind::ADD_KEYS, &wire::body(&[request]));
         for bit in 0..8 * KMAC_LENGTH {
-            self.calls += 2;
             let mut other = message.clone();
             other[HEADER + 2 + KMAC_IN_STRUCT + bit / 8] ^= 1 << (bit % 8);
-            let mut results = Vec::new();
-            for sent in [&message, &other] {
-                let mut world = scene.over(&scene.entries);
-                let mut out = OUTPUT;
-                let World { session, store } = &mut world;
-                let answer = self.library.receive(session, sent, store, &mut out);
-                let call = || receive_call(&scene.world(2).session, sent, out.len());
-                named(call, || numbers("answer", 24, answer?.into()))?;
-                results.push(out[23]);
-            }
-            named(|| "kmac_receive".into(), || buffers("RESULTs", &[0, 4], &results))?;
+            self.add_gives(&scene, &message, 0)?;
+            self.add_gives(&scene, &other, 4)?;
         }
         Ok(())
+    }
+
+    /// An add of one key is answered with this RESULT.
+    fn add_gives(&mut self, scene: &Scene, message: &[u8], result: u8) -> Step {
+        self.calls += 1;
+        let World {
+            mut session,
+            mut store,
+        } = scene.world(OPEN);
+        let call = receive_call(&session, message, OUTPUT.len());
+        let mut out = OUTPUT;
+        let answer = self
+            .library
+            .receive(&mut session, message, &mut store, &mut out);
+        named(
+            || call,
+            || {
+                numbers("answer", 24, answer?.into())?;
+                numbers("RESULT", result.into(), out[23].into())
+            },
+        )
     }
 }
 
@@ -158,7 +178,9 @@ impl Runs {
 fn alike(random: &mut Random, message: &[u8]) -> Vec<u8> {
     let mut other = message.to_vec();
     if is_well_formed_add(message) {
-        let fields = structs_at(message).into_iter().map(|at| at + KMAC_IN_STRUCT);
+        let fields = structs_at(message)
+            .into_iter()
+            .map(|at| at + KMAC_IN_STRUCT);
         vary(random, &mut other, &fields.collect::<Vec<_>>());
     }
     other
@@ -178,7 +200,9 @@ fn vary(random: &mut Random, bytes: &mut [u8], places: &[usize]) {
                 let byte = at + random.below(KMAC_LENGTH);
                 flip_two(random, &mut bytes[byte]);
             }
-            1 => bytes[at..at + KMAC_LENGTH].iter_mut().for_each(|byte| flip_two(random, byte)),
+            1 => bytes[at..at + KMAC_LENGTH]
+                .iter_mut()
+                .for_each(|byte| flip_two(random, byte)),
             _ => {}
         }
     }

@@ -104,7 +104,10 @@ impl Scene {
         let peers = self.names.peers(&mut self.random, 3);
         let deletes = [wire::k_identifier(&key), wire::k_identifier(&last)];
         let validities = [wire::k_validity(&key, 5, 9), wire::k_validity(&last, 9, 5)];
-        let entities = [wire::k_entities(&key, &peers), wire::k_entities(&last, &peers[..1])];
+        let entities = [
+            wire::k_entities(&key, &peers),
+            wire::k_entities(&last, &peers[..1]),
+        ];
         vec![
             self.add(),
             self.message(kind::DELETE_KEYS, &wire::body(&deletes)),

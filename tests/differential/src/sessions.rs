@@ -100,6 +100,8 @@ fn step_with(
 
 /// Puts another byte somewhere in the session, its state and unused bytes among them.
 fn spoil(generator: &mut Generator, world: &mut World) {
-    let at = generator.random.pick(&[0, 1, 2, 3, 4, 5, 9, 13, 14, 18, 31]);
+    let at = generator
+        .random
+        .pick(&[0, 1, 2, 3, 4, 5, 9, 13, 14, 18, 31]);
     world.session[at] = generator.random.u8();
 }

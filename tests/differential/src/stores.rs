@@ -46,7 +46,11 @@ impl Names {
         let peer: Identity = random.array();
         Names {
             own,
-            centre: if random.one_in(3) { other_digit(random, own) } else { random.array() },
+            centre: if random.one_in(3) {
+                other_digit(random, own)
+            } else {
+                random.array()
+            },
             issuers: [issuer, other_digit(random, issuer), random.array()],
             peers: std::array::from_fn(|i| match i {
                 0 => peer,
@@ -228,4 +232,46 @@ fn step(random: &mut Random, store: &mut [u8], at: usize) {
         _ => random.u16(),
     };
     store[at..at + 2].copy_from_slice(&other.to_be_bytes());
+}
+
+#[cfg(test)]
+mod tests {
+    use super::{odd_kmac, unsound, Names, FAULTS};
+    use crate::random::Random;
+    use reference::store::{decode, encode};
+
+    #[test]
+    fn made_kmacs_have_odd_parity() {
+        let mut random = Random::new(1);
+        let kmac = odd_kmac(&mut random);
+        assert!(kmac.iter().all(|byte| byte.count_ones() % 2 == 1));
+    }
+
+    #[test]
+    fn sound_stores_are_sound_and_reach_both_limits() {
+        let (mut most_keys, mut most_peers) = (0, 0);
+        for seed in 0..200 {
+            let mut random = Random::new(seed);
+            let entries = Names::new(&mut random).sound(&mut random);
+            assert_eq!(decode(&encode(&entries)), Some(entries.clone()));
+            let peers = entries.iter().map(|entry| entry.peers.len()).sum();
+            most_keys = most_keys.max(entries.len());
+            most_peers = most_peers.max(peers);
+        }
+        assert_eq!((most_keys, most_peers), (64, 256));
+    }
+
+    #[test]
+    fn every_fault_makes_stores_unsound() {
+        for fault in FAULTS {
+            let mut random = Random::new(3);
+            let names = Names::new(&mut random);
+            let stores = (0..50).map(|_| {
+                let entries = names.entries(&mut random, 20, 5);
+                unsound(&mut random, &entries, fault)
+            });
+            let refused = stores.filter(|store| decode(store).is_none()).count();
+            assert!(refused >= 40, "{fault:?}: {refused} of 50");
+        }
+    }
 }

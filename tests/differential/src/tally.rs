@@ -1,6 +1,7 @@
 //! The tally of document 01, "Demand 3's runs": which held keys two runs were given unlike.
 
 use reference::message::kind;
+use reference::store::KEYS_MAX;
 
 use crate::compare::{buffers, numbers, Compared};
 use crate::stores::{kmac_at, record_at};
@@ -29,7 +30,7 @@ impl Tally {
             key: identifier(first, place).to_vec(),
             unlike: kmac(first, place) != kmac(second, place),
         };
-        Tally((0..key_count(first)).map(tag).collect())
+        Tally((0..key_count(first) as usize).map(tag).collect())
     }
 
     /// Takes in the messages of both runs and the reply of the first.
@@ -67,21 +68,32 @@ impl Tally {
         }
     }
 
+    pub fn has_unlike(&self) -> bool {
+        self.0.iter().any(|tag| tag.unlike)
+    }
+
     /// Both stores have the tally's keys in its order; they differ only inside KMAC fields, and
     /// two KMACs of one place exactly where the tag says unlike.
     pub fn holds(&self, first: &[u8], second: &[u8]) -> Compared {
-        let count = self.0.len();
-        numbers("key count against the tally", count as i64, key_count(first) as i64)?;
-        for (place, tag) in self.0.iter().enumerate() {
-            buffers("issuer and serial against the tally", &tag.key, identifier(first, place))?;
+        let held = self.0.len();
+        numbers("key count, by the tally", held as i64, key_count(first))?;
+        for (place, tag) in self.0.iter().enumerate().take(KEYS_MAX) {
+            let got = identifier(first, place);
+            buffers("issuer and serial, by the tally", &tag.key, got)?;
             let unlike = kmac(first, place) != kmac(second, place);
-            numbers("KMACs unlike (1) or same (0)", tag.unlike.into(), unlike.into())?;
+            numbers(
+                "KMACs unlike, by the tally",
+                tag.unlike.into(),
+                unlike.into(),
+            )?;
         }
-        buffers("stores outside KMAC fields", &masked(first, count), &masked(second, count))
+        let held = held.min(KEYS_MAX);
+        let (first, second) = (masked(first, held), masked(second, held));
+        buffers("store outside KMAC fields", &first, &second)
     }
 }
 
-fn key_count(store: &[u8]) -> usize {
+fn key_count(store: &[u8]) -> i64 {
     u16::from_be_bytes([store[2], store[3]]).into()
 }
 
@@ -104,7 +116,7 @@ fn masked(store: &[u8], count: usize) -> Vec<u8> {
 
 #[cfg(test)]
 mod tests {
-    use super::{Tally, kmac_at};
+    use super::{kmac_at, Tally};
     use crate::random::Random;
     use crate::stores::Names;
     use reference::store::encode;

@@ -137,7 +137,11 @@ pub fn some(both: &mut Both, seed: u64) -> Step {
     let mut random = Random::new(seed);
     for _ in 0..20 {
         both.des(&random.array(), &random.array())?;
-        let length = if random.one_in(8) { random.pick(&KEY_LENGTHS) } else { 24 };
+        let length = if random.one_in(8) {
+            random.pick(&KEY_LENGTHS)
+        } else {
+            24
+        };
         let key = random.bytes(length);
         both.session_keys(&key, &random.array(), &random.array())?;
         let length = random.pick(&[0, 1, 2, 3, 10, 100, 1022, 1023, 1024]) + random.below(3);
