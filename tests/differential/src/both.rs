@@ -1,9 +1,12 @@
 //! Makes a call on the library and on the second program, and compares all that it leaves.
 
-use crate::compare::{buffers, numbers, Difference};
+use reference::refusal::H5;
+
+use crate::compare::{buffers, numbers, Compared, Difference};
 use crate::coverage::{Call, Coverage};
 use crate::library::{Library, SessionBytes};
 use crate::model;
+use crate::wire::RESPONSE_AT;
 
 /// A failed call.
 pub struct Failure {
@@ -83,7 +86,8 @@ impl Both {
             numbers("answer", answer.into(), got?.into())?;
             buffers("session", &world.session, &got_world.session)?;
             buffers("store", &world.store, &got_world.store)?;
-            buffers("output", &written, &got_out)
+            buffers("output", &written, &got_out)?;
+            demand_1(&before, &got_world, answer, out, &got_out)
         })?;
         self.seen.received(message, answer, &written);
         Ok(answer)
@@ -182,6 +186,21 @@ impl Both {
         self.seen.answer(Call::EmptyStore, answer);
         Ok(())
     }
+}
+
+/// What the library left, by demand 1 alone: a refusal writes nowhere but for the session that H5
+/// closes, and a RESPONSE other than 0 leaves the store.
+fn demand_1(before: &World, after: &World, answer: i32, out: &[u8], got_out: &[u8]) -> Compared {
+    if answer < 0 {
+        buffers("output of a refusal", out, got_out)?;
+    }
+    if answer < 0 && answer != -i32::from(H5) {
+        buffers("session of a refusal", &before.session, &after.session)?;
+    }
+    if answer <= 0 || got_out[RESPONSE_AT] != 0 {
+        buffers("store with no RESPONSE 0", &before.store, &after.store)?;
+    }
+    Ok(())
 }
 
 /// Puts the call's name beside a difference.

@@ -5,6 +5,8 @@ use std::fmt;
 
 use reference::message::kind;
 
+use crate::wire::{RESPONSE_AT, RESULTS_AT, TYPE_AT};
+
 #[derive(Clone, Copy, PartialEq, Eq, PartialOrd, Ord, Debug)]
 pub enum Call {
     Begin,
@@ -68,17 +70,17 @@ impl Coverage {
     /// What `receive` answered, and the RESPONSE and RESULTs of the reply that it wrote.
     pub fn received(&mut self, message: &[u8], answer: i32, out: &[u8]) {
         self.answer(Call::Receive, answer);
-        let Some((&kind, length)) = message.get(19).zip(usize::try_from(answer).ok()) else {
+        let Some((&kind, length)) = message.get(TYPE_AT).zip(usize::try_from(answer).ok()) else {
             return;
         };
         if length == 0 {
             let opened = kind == kind::SESSION_INIT;
             return self.see(if opened { Mark::Opened } else { Mark::Ended });
         }
-        if let Some(&response) = out.get(20) {
+        if let Some(&response) = out.get(RESPONSE_AT) {
             self.see(Mark::Response(response));
         }
-        for &result in out.get(23..length).unwrap_or_default() {
+        for &result in out.get(RESULTS_AT..length).unwrap_or_default() {
             self.see(Mark::Result(kind, result));
         }
     }
@@ -99,10 +101,14 @@ impl Coverage {
     }
 }
 
+/// An answer of 0 or more, and the refusals.
+fn answers(call: Call, houses: &[u8]) -> Vec<Mark> {
+    [vec![Mark::Given(call)], refusals(call, houses)].concat()
+}
+
 fn refusals(call: Call, houses: &[u8]) -> Vec<Mark> {
-    let mut marks = vec![Mark::Given(call)];
-    marks.extend(houses.iter().map(|&house| Mark::Refused(call, house)));
-    marks
+    let mark = |&house| Mark::Refused(call, house);
+    houses.iter().map(mark).collect()
 }
 
 fn results(kind: u8, results: &[u8]) -> Vec<Mark> {
@@ -114,9 +120,9 @@ fn results(kind: u8, results: &[u8]) -> Vec<Mark> {
 fn of_sound_stores() -> Vec<Mark> {
     let responses = [0, 1, 2, 3, 4, 5, 9, 11].map(Mark::Response);
     [
-        refusals(Call::Begin, &[2, 6]),
-        refusals(Call::Receive, &[2, 3, 4, 5]),
-        refusals(Call::Find, &[11]),
+        answers(Call::Begin, &[2, 6]),
+        answers(Call::Receive, &[2, 3, 4, 5]),
+        answers(Call::Find, &[11]),
         vec![Mark::Opened, Mark::Ended],
         responses.to_vec(),
         results(kind::ADD_KEYS, &[0, 2, 3, 4, 5, 255]),
@@ -146,10 +152,10 @@ pub fn of_sessions() -> Vec<Mark> {
 /// What the ciphers' and units' calls, and the empty store, can answer.
 pub fn of_units() -> Vec<Mark> {
     [
-        refusals(Call::SessionKeys, &[13]),
-        refusals(Call::Build, &[2, 10, 13]),
-        refusals(Call::Check, &[7, 8, 9, 13]),
-        refusals(Call::EmptyStore, &[1]),
+        answers(Call::SessionKeys, &[13]),
+        answers(Call::Build, &[2, 10, 13]),
+        answers(Call::Check, &[7, 8, 9, 13]),
+        answers(Call::EmptyStore, &[1]),
     ]
     .concat()
 }
@@ -171,11 +177,7 @@ mod tests {
             let mut seen = Coverage::default();
             let others = of_sessions().into_iter().filter(|&mark| mark != unseen);
             others.for_each(|mark| seen.see(mark));
-            assert!(seen
-                .missing(&of_sessions())
-                .iter()
-                .all(|&mark| mark == unseen));
-            assert!(!seen.missing(&of_sessions()).is_empty());
+            assert_eq!(seen.missing(&of_sessions()), [unseen]);
         }
     }
 

@@ -37,7 +37,7 @@ use pairs::Pairs;
 /// Calls of a random sequence, and of each run of a pair.
 const STEPS: usize = 400;
 /// Rounds of the gate.
-const ROUNDS: u64 = 1500;
+const ROUNDS: u64 = 2000;
 
 fn main() -> ExitCode {
     let Some(options) = Options::read(std::env::args().skip(1)) else {
@@ -96,7 +96,7 @@ impl Tests {
         while !is_over(self.round) {
             let seed = self.seed.wrapping_add(self.round);
             sessions::sequence(&mut self.random, seed, STEPS)?;
-            self.pairs.pair(seed, STEPS)?;
+            self.pairs.pair(!seed, STEPS)?;
             units::some(&mut self.random, seed)?;
             self.round += 1;
         }

@@ -15,7 +15,8 @@ use crate::scene::{Scene, OUTPUT};
 use crate::sessions::start;
 use crate::stores::kmac_at;
 use crate::tally::Tally;
-use crate::wire::{self, structs_at, HEADER, KMAC_IN_STRUCT, KMAC_LENGTH, TYPE_AT};
+use crate::wire::{self, structs_at, HEADER, KMAC_IN_STRUCT, KMAC_LENGTH};
+use crate::wire::{RESULTS_AT, TYPE_AT};
 
 pub struct Pairs {
     library: Library,
@@ -160,7 +161,7 @@ impl Pairs {
             || call,
             || {
                 numbers("answer", 24, answer?.into())?;
-                numbers("RESULT", result.into(), out[23].into())
+                numbers("RESULT", result.into(), out[RESULTS_AT].into())
             },
         )
     }

@@ -6,12 +6,10 @@ use reference::store::KEYS_MAX;
 use crate::compare::{buffers, numbers, Compared};
 use crate::stores::{kmac_at, record_at};
 use crate::wire::{structs_at, HEADER, KMAC_IN_STRUCT, KMAC_LENGTH};
+use crate::wire::{RESPONSE_AT, RESULTS_AT, TYPE_AT};
 
 const IDENTIFIER: usize = 8;
 const IDENTIFIER_IN_STRUCT: usize = 1;
-/// Where a reply has its RESPONSE and its RESULTs.
-const RESPONSE_AT: usize = 20;
-const RESULTS_AT: usize = 23;
 
 #[derive(Clone, PartialEq, Eq, Debug)]
 struct Tag {
@@ -39,7 +37,7 @@ impl Tally {
             return;
         }
         let results = reply.get(RESULTS_AT..).unwrap_or_default();
-        match first[HEADER - 1] {
+        match first[TYPE_AT] {
             kind::ADD_KEYS => self.added(first, second, results),
             kind::DELETE_KEYS => self.deleted(&first[HEADER + 2..], results),
             kind::DELETE_ALL_KEYS => self.0.clear(),

@@ -13,6 +13,10 @@ pub const SENDER_AT: usize = 9;
 pub const SEQUENCE_AT: usize = 17;
 pub const TYPE_AT: usize = 19;
 
+/// Where a reply has its RESPONSE and its RESULTs (000, 5.3.15).
+pub const RESPONSE_AT: usize = 20;
+pub const RESULTS_AT: usize = 23;
+
 /// Where fields stand in a K-STRUCT with its KMAC (000, 5.3.4.1).
 pub const KMAC_IN_STRUCT: usize = 13;
 pub const KMAC_LENGTH: usize = 24;
