@@ -19,6 +19,7 @@ pub fn all(both: &mut Both, seed: u64) -> Step {
     torn_add(both, seed)?;
     sequence_numbers(both, seed)?;
     session_bytes(both, seed)?;
+    session_inits(both, seed)?;
     begins(both, seed)
 }
 
@@ -207,6 +208,26 @@ fn session_bytes(both: &mut Both, seed: u64) -> Step {
             world.session = scene.random.array();
             world.session[0] = state;
             both.receive(&mut world, &message, &OUTPUT)?;
+        }
+    }
+    Ok(())
+}
+
+/// Lists of every length with version 2 first, last, anywhere or nowhere, and a byte more or less.
+fn session_inits(both: &mut Both, seed: u64) -> Step {
+    let mut scene = Scene::new(seed ^ 8);
+    for count in 0..=255 {
+        let places = [0, count.max(1) - 1, scene.random.below(count + 1), count];
+        for place in places {
+            let mut versions = vec![3; count];
+            if let Some(version) = versions.get_mut(place) {
+                *version = 2;
+            }
+            let body = wire::init_body(&versions, scene.random.pick(&[0, 2, 5, 255]));
+            let message = scene.message(kind::SESSION_INIT, &body);
+            for length in message.len() - 1..=message.len() + 1 {
+                cut(both, &scene.world(WAITING), &message, length)?;
+            }
         }
     }
     Ok(())

@@ -2,7 +2,7 @@
 
 use reference::message::kind;
 use reference::session::OPEN;
-use reference::store::encode;
+use reference::store::{encode, LENGTH};
 
 use crate::both::{Both, Step, World};
 use crate::scene::{Scene, OUTPUT};
@@ -13,6 +13,7 @@ pub fn all(both: &mut Both, seed: u64) -> Step {
     every_fault(both, seed)?;
     every_bit(both, seed)?;
     every_pair_shares(both, seed)?;
+    garbage(both, seed)?;
     empty_stores(both, seed)
 }
 
@@ -72,6 +73,24 @@ fn every_pair_shares(both: &mut Both, seed: u64) -> Step {
             }
             both.find(&encode(&shared), peer, 0)?;
         }
+    }
+    Ok(())
+}
+
+/// Buffers of any bytes, with and without a right header, before each command and a search.
+fn garbage(both: &mut Both, seed: u64) -> Step {
+    let mut scene = Scene::new(seed ^ 24);
+    for turn in 0..100 {
+        let mut store = scene.random.bytes(LENGTH);
+        if turn % 2 == 0 {
+            store[..12].copy_from_slice(&encode(&scene.entries)[..12]);
+        }
+        for message in scene.messages() {
+            let mut world = scene.world(OPEN);
+            world.store = store.clone();
+            both.receive(&mut world, &message, &OUTPUT)?;
+        }
+        both.find(&store, scene.random.u32(), scene.random.u32())?;
     }
     Ok(())
 }
