@@ -241,7 +241,7 @@ impl Generator {
         match self.random.below(60) {
             0 => self.random.between(250, 260),
             1 => self.random.between(1, 256),
-            2 => self.random.pick(&[256, 257, 1000]),
+            2 => self.random.pick(&[256, 257, 1000, 1001]),
             _ => self.random.between(1, self.most_peers),
         }
     }

@@ -194,15 +194,22 @@ pub fn unsound(random: &mut Random, entries: &[Entry], fault: Fault) -> Vec<u8> 
         Fault::TooManyKeys => store[2..4].copy_from_slice(&65u16.to_be_bytes()),
         Fault::TooManyPeers => store[6..8].copy_from_slice(&257u16.to_be_bytes()),
         Fault::UnusedKeyByte if keys_end < PEERS_AT => {
-            store[random.between(keys_end, PEERS_AT - 1)] = 1 << random.below(8);
+            spoil(random, &mut store[keys_end..PEERS_AT]);
         }
         Fault::UnusedPeerByte if peers_end < LENGTH => {
-            store[random.between(peers_end, LENGTH - 1)] = 1 << random.below(8);
+            spoil(random, &mut store[peers_end..]);
         }
         _ if entries.is_empty() => {}
         _ => in_record(random, &mut store, entries, fault),
     }
     store
+}
+
+/// A bit in the first byte, in the last or in any.
+fn spoil(random: &mut Random, unused: &mut [u8]) {
+    let last = unused.len() - 1;
+    let any = random.between(0, last);
+    unused[random.pick(&[0, last, any])] ^= 1 << random.below(8);
 }
 
 /// A fault in one of the records.
