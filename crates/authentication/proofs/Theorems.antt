@@ -20,10 +20,10 @@ use Rattle.refusal.proofs.Laws.{asks-gives, gives-number}
 use Rattle.authentication.specs.Mac.{mac}
 use Rattle.authentication.specs.Keys.{odd, ks1, ks2, ks3, sessionKeys}
 use Rattle.authentication.specs.Unit.{header, message, unitOf, between, built, buffer, body, macOf, rightHeader, rightContents, checked, dataOf}
-use Rattle.authentication.specs.Claims.{Accepts, IsBuilt, AcceptedExactlyBuilt, WrittenAccepted, RefusedBuildWritesNothing, OddParity}
+use Rattle.authentication.specs.Claims.{Accepts, IsBuilt, AcceptedExactlyBuilt, WrittenAccepted, RefusedBuildWritesNothing, OddParity, OneAnswer}
 use Rattle.authentication.proofs.KeyLaws.{odd-ones, odd-high}
 use Rattle.authentication.proofs.UnitLaws.{between-true, header-only, header-right, take-first, length-unit, body-unit, mac-unit, data-unit, first-unit}
-use Rattle.authentication.proofs.AnswerLaws.{Passed, passed, all-right}
+use Rattle.authentication.proofs.AnswerLaws.{Passed, passed, all-right, one-derived, one-built, one-checked}
 
 -- ---- what is accepted is built
 
@@ -146,3 +146,6 @@ odd-parity =
           map-at odd (λ (x : ℕ). ones x % 2 ≡ 1) odd-ones (a ++ (b ++ c)) i l;
       others = odd-high;
     }
+
+pub one-answer : OneAnswer
+one-answer = record { of-keys = one-derived; of-build = one-built; of-check = one-checked }

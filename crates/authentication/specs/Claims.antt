@@ -7,8 +7,11 @@ use Prim.Native.Nat.{ℕ, _/_, _%_, _≤_, _<_}
 use lib.Count.{ones}
 use lib.ListN.{length, getD, take}
 use Rattle.refusal.specs.House.{house, gives}
-use Rattle.authentication.specs.Keys.{odd, sessionKeys}
-use Rattle.authentication.specs.Unit.{unitOf, built, buffer, checked, dataOf}
+use Rattle.authentication.specs.declared.Derived.{Derived}
+use Rattle.authentication.specs.declared.Built.{Built}
+use Rattle.authentication.specs.declared.Checked.{Checked}
+use Rattle.authentication.specs.Keys.{odd, sessionKeys, derivedAs}
+use Rattle.authentication.specs.Unit.{unitOf, built, buffer, builtAs, checked, checkedAs, dataOf}
 
 -- the unit is accepted, and d is the user data handed out
 pub record Accepts (unit key destination : List ℕ) (direction : Bool) (d : List ℕ) : Type 0 where
@@ -41,3 +44,9 @@ pub record RefusedBuildWritesNothing : Type 0 where
 pub record OddParity : Type 0 where
   pub keys : (kmac ra rb : List ℕ) (i : ℕ) → i < 24 → ones (getD (sessionKeys kmac ra rb) i 0) % 2 ≡ 1
   pub others : (b : ℕ) → odd b / 2 ≡ b / 2
+
+-- the paper's numbers are those of one answer only: a contract that fixes them fixes the answer
+pub record OneAnswer : Type 0 where
+  pub of-keys : (a b : Derived) → derivedAs a ≡ derivedAs b → a ≡ b
+  pub of-build : (a b : Built) → builtAs a ≡ builtAs b → a ≡ b
+  pub of-check : (a b : Checked) → checkedAs a ≡ checkedAs b → a ≡ b

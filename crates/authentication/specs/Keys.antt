@@ -55,9 +55,9 @@ derivedAs (Refused h) = house (houseNumber h)
 unfoldable pub derived : List ℕ → Answer
 derived kmac = asks (eqb (length kmac) 24) 13 (gives 0)
 
--- the 24 bytes beside it: zeros where it is refused
 pub record Derives (kmac ra rb : List ℕ) (answer : Derived) (key : List ℕ) : Type 0 where
   pub said : derivedAs answer ≡ derived kmac
+  -- the 24 bytes beside it: zeros where it is refused
   pub made : key ≡ unlessRefused (derived kmac) (sessionKeys kmac ra rb) (replicate 24 0)
 
 -- ---- inside

@@ -25,7 +25,7 @@ flag false = 0
 abbrev pub firstByte : ℕ → ℕ → ℕ → ℕ
 firstByte ety mti df = ety * 32 + mti * 2 + df
 
--- that of a DT unit: ETY 000, MTI 0101
+-- that of a DT unit: ETY 000, MTI 0101 (002, Tables 7 and 12)
 abbrev pub header : Bool → ℕ
 header direction = firstByte 0 5 (flag direction)
 

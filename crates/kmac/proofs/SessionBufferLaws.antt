@@ -8,6 +8,7 @@ use native.Mathlib.Omega.{arith}
 use lib.Dec.{lit<, eqb, leb}
 use lib.IntN.{ℤ}
 use lib.ListN.{length, replicate}
+use borrow.Author.Tests.{ne-eqb}
 use mir.Syntax.{w32}
 use mir.Val.{SFits, toZ, ofZ}
 use mir.ValLaws.{toZ-ofZ}
@@ -19,10 +20,10 @@ use Rattle.session.specs.declared.Received.the-variants.{Reply, Opened, Ended, 
 use Rattle.session.specs.Sessions.{begins, orRefuse, begin}
 use Rattle.session.specs.Rules.{Answered, receive, receivedAs, Does}
 use Rattle.session.proofs.OutcomeLaws.{does-as}
-use Rattle.session.proofs.Theorems.{reply-length}
+use Rattle.session.proofs.Theorems.{reply-length, refusal-leaves-session}
 use Rattle.kmac.specs.Code.{code}
-use Rattle.kmac.specs.SessionBuffer.{sessionBytes, sessionOf, replyLength, keepsSession, Short, Tells}
-use Rattle.kmac.specs.Claims.{ReadAsWritten, ZerosAreClosed}
+use Rattle.kmac.specs.SessionBuffer.{sessionBytes, sessionOf, replyLength, writesSession, Short, Tells}
+use Rattle.kmac.specs.Claims.{ReadAsWritten, ZerosAreClosed, RefusalLeavesBuffer}
 use Rattle.kmac.proofs.CodeLaws.{negative}
 
 -- ---- lengths are small numbers
@@ -48,15 +49,15 @@ module _ (e : Session) (m s out : List ℕ) {after : Session} {store output : Li
   pub answer-short : Short (receivedAs answer)
   answer-short = record { by = λ n q. omega (arith, reply-length .to e m s out n (sym (d .answer-is) ∙ q)) }
 
-  pub tells : (before then : List ℕ) (told : ℤ) (kept : Bool) → e ≡ sessionOf before → told ≡ code (replyLength (receivedAs answer)) → kept ≡ keepsSession (receivedAs answer)
-      → then ≡ cond kept (sessionBytes after) before → Tells (receive (sessionOf before) m s out) (toZ w32 (ofZ w32 told)) before then store output
-  tells before then told kept l t k b =
+  pub tells : (before then : List ℕ) (told : ℤ) (written : Bool) → e ≡ sessionOf before → told ≡ code (replyLength (receivedAs answer)) → written ≡ writesSession (receivedAs answer)
+      → then ≡ cond written (sessionBytes after) before → Tells (receive (sessionOf before) m s out) (toZ w32 (ofZ w32 told)) before then store output
+  tells before then told written l t k b =
       let f = does-as (ap (λ (x : Session). receive x m s out) l) d in
       let fits = subst (λ (z : ℤ). SFits w32 z) (sym t) (told-fits answer answer-short) in
       record {
         answer-is = toZ-ofZ w32 told fits ∙ t ∙ ap (λ (a : Answered). code (replyLength a)) (f .answer-is);
-        session-is = b ∙ ap (λ (x : Bool). cond x (sessionBytes after) before) (k ∙ ap keepsSession (f .answer-is))
-            ∙ ap (λ (x : Session). cond (keepsSession (receive (sessionOf before) m s out .answer)) (sessionBytes x) before) (f .session-is);
+        session-is = b ∙ ap (λ (x : Bool). cond x (sessionBytes after) before) (k ∙ ap writesSession (f .answer-is))
+            ∙ ap (λ (x : Session). cond (writesSession (receive (sessionOf before) m s out .answer)) (sessionBytes x) before) (f .session-is);
         store-is = f .store-is;
         output-is = f .output-is;
       }
@@ -85,3 +86,14 @@ read-as-written =
 
 pub zeros-are-closed : ZerosAreClosed
 zeros-are-closed = record { closed = refl }
+
+pub refusal-leaves-buffer : RefusalLeavesBuffer
+refusal-leaves-buffer =
+    record {
+      as-it-was = λ e m s out before n q f. ap (λ (a : Answered). cond (writesSession a) (sessionBytes (receive e m s out .session)) before) q ∙ unwritten e m s out before n f;
+      closed = λ e m s out before q.
+          ap (λ (a : Answered). cond (writesSession a) (sessionBytes (receive e m s out .session)) before) q ∙ ap sessionBytes (refusal-leaves-session .closed e m s out q);
+    }
+  where
+    unwritten : (e : Session) (m s out before : List ℕ) (n : ℕ) → (n ≡ 5 → ⊥) → cond (eqb n 5) (sessionBytes (receive e m s out .session)) before ≡ before
+    unwritten e m s out before n f = ap (λ (b : Bool). cond b (sessionBytes (receive e m s out .session)) before) (ne-eqb n 5 f)

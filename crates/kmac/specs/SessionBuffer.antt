@@ -43,11 +43,15 @@ replyLength ended = gives 0
 replyLength (refused n) = house n
 
 -- a refusal leaves the buffer, but H5, which closes the session
-abbrev pub keepsSession : Answered → Bool
-keepsSession (reply n) = true
-keepsSession opened = true
-keepsSession ended = true
-keepsSession (refused n) = eqb n 5
+abbrev pub writesSession : Answered → Bool
+writesSession (reply n) = true
+writesSession opened = true
+writesSession ended = true
+writesSession (refused n) = eqb n 5
+
+-- the buffer after an outcome
+abbrev pub sessionAfter : Outcome → List ℕ → List ℕ
+sessionAfter o before = cond (writesSession (o .answer)) (sessionBytes (o .session)) before
 
 -- a length that C can be told: 31 bits
 pub record Short (a : Answered) : Type 0 where
@@ -56,6 +60,6 @@ pub record Short (a : Answered) : Type 0 where
 -- what C is told of an outcome, and every byte that it lent
 pub record Tells (o : Outcome) (told : ℤ) (before after store output : List ℕ) : Type 0 where
   pub answer-is : told ≡ code (replyLength (o .answer))
-  pub session-is : after ≡ cond (keepsSession (o .answer)) (sessionBytes (o .session)) before
+  pub session-is : after ≡ sessionAfter o before
   pub store-is : store ≡ o .store
   pub output-is : output ≡ o .output

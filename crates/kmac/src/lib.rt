@@ -1,6 +1,6 @@
 // The C interface: each function does what the call behind it does.
 use crate::session_buffer::bytes_of;
-use crate::session_buffer::is_kept;
+use crate::session_buffer::is_written;
 use crate::session_buffer::load;
 use authentication::Built;
 use authentication::Checked;
@@ -173,7 +173,7 @@ pub extern "C" fn kmac_receive(
     let turn = before.receive(message, store, out);
     let answer = turn.answer;
     let said = told(answer);
-    if is_kept(answer) {
+    if is_written(answer) {
         *session = bytes_of(turn.session);
         return said;
     }

@@ -1,7 +1,7 @@
 // The session as C keeps it.
 ghost use mathlib.Core.Path.{_≡_};
 ghost use Rattle.session.specs.Rules.{receivedAs};
-ghost use Rattle.kmac.specs.SessionBuffer.{sessionBytes, sessionOf, keepsSession};
+ghost use Rattle.kmac.specs.SessionBuffer.{sessionBytes, sessionOf, writesSession};
 use refusal::house_number;
 use session::Received;
 use session::Session;
@@ -65,9 +65,9 @@ pub fn bytes_of(session: Session) -> [u8; 32]
     ]
 }
 
-// Whether the session after an answer is written.
-pub fn is_kept(answer: Received) -> bool
-    ensures { λ r. ⌜ r ≡ keepsSession (receivedAs answer) ⌝ }
+// Whether the session is written after an answer.
+pub fn is_written(answer: Received) -> bool
+    ensures { λ r. ⌜ r ≡ writesSession (receivedAs answer) ⌝ }
 {
     match answer {
         Received::Reply(n) => true,

@@ -1,3 +1,4 @@
 pub mod BodyLaws
 pub mod ReadableLaws
 pub mod WrittenLaws
+pub mod Examples

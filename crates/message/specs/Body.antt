@@ -41,7 +41,7 @@ sizeAt Deletes m i = 8
 sizeAt Validities m i = 16
 sizeAt Entities m i = 10 + 4 * entitiesCount m i
 
--- K-LENGTH is 24, and PEER-NUM in the range of 000
+-- K-LENGTH is 24, and PEER-NUM in the range of 000 (5.3.4.1, 5.3.8.1)
 unfoldable pub fieldsOk : Command → List ℕ → ℕ → Bool
 fieldsOk Adds m i = eqb (getD m i 0) 24 && inRange 1 1000 (addCount m i)
 fieldsOk Deletes m i = true
@@ -88,7 +88,7 @@ requestNumber m = get16 m 20
 abbrev pub requestsAt : ℕ
 requestsAt = 22
 
--- the largest REQ-NUM; the smallest is 1
+-- the largest REQ-NUM (5.3.4, 5.3.5, 5.3.7, 5.3.8); the smallest is 1
 abbrev pub most : Command → ℕ
 most Adds = 100
 most Deletes = 500

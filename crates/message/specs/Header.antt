@@ -38,7 +38,7 @@ sequence m = get16 m 17
 abbrev pub typeNumber : List ℕ → ℕ
 typeNumber m = getD m 19 0
 
--- ---- the message types
+-- ---- the message types (5.3.3)
 
 unfoldable pub kindOf : ℕ → Kind
 kindOf t =

@@ -13,7 +13,7 @@ use Rattle.message.specs.Header.{headerLength}
 abbrev pub header : ℕ → ℕ → ℕ → ℕ → ℕ → ℕ → List ℕ
 header size to from number next type = be32 size ++ (2 ∷ be32 to ++ (be32 from ++ (be32 number ++ (be16 next ++ (type ∷ [])))))
 
--- NOTIF_SESSION_INIT: transaction number 0 (5.3.3), one version, 2, and the time-out that means defined by the peer
+-- NOTIF_SESSION_INIT: transaction number 0 (5.3.3), one version, 2, and the time-out that means defined by the peer (5.3.13)
 abbrev pub initBytes : ℕ → ℕ → ℕ → List ℕ
 initBytes own peer start = header 23 peer own 0 start 9 ++ (1 ∷ 2 ∷ 255 ∷ [])
 

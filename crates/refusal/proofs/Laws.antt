@@ -9,35 +9,40 @@ use Rattle.refusal.specs.House.{houseNumber, Answer, house, gives, asks}
 use Rattle.refusal.specs.declared.Refusal.{Refusal}
 use Rattle.refusal.specs.declared.Refusal.the-variants.{StoreLength, OutputLength, SessionClosed, MessageShort, NoSessionInit, SameIdentity, UnitLength, MacDiffers, UnitContents, DataLength, NoKey, StoreUnsound, KeyLength}
 
+-- what has a way back is one to one
+pub one-each : {A B : Type 0} (f : A → B) (g : B → A) → ((a : A) → g (f a) ≡ a) → (a b : A) → f a ≡ f b → a ≡ b
+one-each f g back a b e = sym (back a) ∙ ap g e ∙ back b
+
 -- the element at a place of a list, the first being 1; the last past its end
 at : Refusal → List Refusal → ℕ → Refusal
 at h [] n = h
 at h (g ∷ gs) zero = h
 at h (g ∷ gs) (suc n) = at g gs n
 
-named : ℕ → Refusal
+-- the refusal of a number
+pub named : ℕ → Refusal
 named =
     at KeyLength
     (StoreLength ∷ OutputLength ∷ SessionClosed ∷ MessageShort ∷ NoSessionInit ∷ SameIdentity ∷ UnitLength ∷ MacDiffers ∷ UnitContents ∷ DataLength ∷ NoKey ∷ StoreUnsound ∷ KeyLength ∷ [])
 
-back : (h : Refusal) → named (houseNumber h) ≡ h
+pub named-back : (h : Refusal) → named (houseNumber h) ≡ h
 unfolding named at
-back StoreLength = refl
-back OutputLength = refl
-back SessionClosed = refl
-back MessageShort = refl
-back NoSessionInit = refl
-back SameIdentity = refl
-back UnitLength = refl
-back MacDiffers = refl
-back UnitContents = refl
-back DataLength = refl
-back NoKey = refl
-back StoreUnsound = refl
-back KeyLength = refl
+named-back StoreLength = refl
+named-back OutputLength = refl
+named-back SessionClosed = refl
+named-back MessageShort = refl
+named-back NoSessionInit = refl
+named-back SameIdentity = refl
+named-back UnitLength = refl
+named-back MacDiffers = refl
+named-back UnitContents = refl
+named-back DataLength = refl
+named-back NoKey = refl
+named-back StoreUnsound = refl
+named-back KeyLength = refl
 
 pub one-number : (g h : Refusal) → houseNumber g ≡ houseNumber h → g ≡ h
-one-number g h e = sym (back g) ∙ ap named e ∙ back h
+one-number = one-each houseNumber named named-back
 
 -- ---- tests in a row
 

@@ -17,9 +17,9 @@ use Rattle.session.specs.declared.Session.{Session}
 use Rattle.session.specs.Sessions.{Beginning, begin, beginOutput}
 use Rattle.session.specs.Rules.{Answered, Outcome, receive}
 use Rattle.runs.specs.Calls.{Call, starts, brings, World, Seen, begun, received, searched, replyOf, seen, sessionOf, next, allSeen, final}
-use Rattle.runs.specs.Alike.{AlikeCalls, no-calls, alike-begin, alike-message, alike-search, soundIn, heldIn}
+use Rattle.runs.specs.Alike.{AlikeCalls, AlikeStores, no-calls, alike-begin, alike-message, alike-search, soundIn, heldIn}
 use Rattle.runs.specs.Tally.{Tag, tags, tallied, tally}
-use Rattle.runs.specs.Secrecy.{Secrecy}
+use Rattle.runs.specs.Secrecy.{Secrecy, RunsKeepSound}
 use Rattle.runs.proofs.TwinLaws.{Twins, alike-twins, twins-alike, twins-told, twins-equal, find-same, key-size}
 use Rattle.runs.proofs.StepLaws.{SameStep, receive-same}
 
@@ -84,4 +84,12 @@ secrecy =
             told = twins-told L (k .twins);
             no-trace = twins-equal L (k .twins);
           };
+    }
+
+pub runs-keep-sound : RunsKeepSound
+runs-keep-sound =
+    record {
+      kept = λ cs w b h c.
+          let itself : AlikeStores (w .store) (w .store) = record { bytes = b; bytes' = b; sound = h; sound' = h; differ = record { same-length = refl; same-byte = λ i p. refl } } in
+          secrecy .runs cs cs w w refl itself c .alike-stores .sound;
     }

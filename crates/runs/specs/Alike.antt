@@ -1,4 +1,4 @@
--- Stores and calls that are alike: they differ at most inside KMAC fields (demand 3).
+-- Stores and calls that are alike: they differ at most inside KMAC fields (demand 3). A name with ' is of the second run.
 -- Assumes nothing.
 use mathlib.Core.Path.{_≡_}
 use mathlib.Core.List.{List, [], _∷_}

@@ -3,3 +3,4 @@ pub mod SessionLaws
 pub mod OutcomeLaws
 pub mod RuleLaws
 pub mod Theorems
+pub mod AnswerLaws

@@ -1,4 +1,4 @@
--- What is claimed of messages beside the contracts. proofs/Theorems.antt has a proof of each claim.
+-- What is claimed of messages beside the contracts. proofs/Theorems.antt and proofs/AnswerLaws.antt have a proof of each claim.
 -- Assumes nothing.
 use mathlib.Core.Path.{_≡_}
 use mathlib.Core.List.{List}
@@ -6,8 +6,15 @@ use Prim.Native.Nat.{ℕ, _≤_, _<_}
 use lib.ListN.{length, getD, take}
 use Rattle.message.specs.Header.{messageLength}
 use Rattle.session.specs.declared.Session.{Session}
-use Rattle.session.specs.Sessions.{closing, begin, refuses, beginOutput}
-use Rattle.session.specs.Rules.{receive, reply, refused}
+use Rattle.session.specs.declared.Begun.{Begun}
+use Rattle.session.specs.declared.Received.{Received}
+use Rattle.session.specs.Sessions.{closing, begin, refuses, beginOutput, begunAs}
+use Rattle.session.specs.Rules.{receive, reply, refused, receivedAs}
+
+-- the paper's numbers are those of one answer only: a contract that fixes them fixes the answer
+pub record OneAnswer : Type 0 where
+  pub of-begin : (a b : Begun) → begunAs a ≡ begunAs b → a ≡ b
+  pub of-message : (a b : Received) → receivedAs a ≡ receivedAs b → a ≡ b
 
 -- demand 1: a refusal writes to no lent buffer
 pub record RefusalWritesNothing : Type 0 where
@@ -30,12 +37,12 @@ pub record RefusalLeavesSession : Type 0 where
   pub as-it-was : (e : Session) (m s out : List ℕ) (n : ℕ) → receive e m s out .answer ≡ refused n → (n ≡ 5 → ⊥) → receive e m s out .session ≡ e
   pub closed : (e : Session) (m s out : List ℕ) → receive e m s out .answer ≡ refused 5 → receive e m s out .session ≡ closing e
 
--- a session that opens or ends leaves the store and the output
+-- what is no reply writes neither the store nor the output
 pub record OnlyRepliesWrite : Type 0 where
   pub of-store : (e : Session) (m s out : List ℕ) → ((n : ℕ) → receive e m s out .answer ≡ reply n → ⊥) → receive e m s out .store ≡ s
   pub of-output : (e : Session) (m s out : List ℕ) → ((n : ℕ) → receive e m s out .answer ≡ reply n → ⊥) → receive e m s out .output ≡ out
 
--- a reply has 23 bytes and at most 500 RESULTs
+-- a reply has 23 bytes and one for each RESULT, at most 500
 pub record ReplyLength : Type 0 where
   pub from : (e : Session) (m s out : List ℕ) (n : ℕ) → receive e m s out .answer ≡ reply n → 23 ≤ n
   pub to : (e : Session) (m s out : List ℕ) (n : ℕ) → receive e m s out .answer ≡ reply n → n ≤ 523

@@ -59,10 +59,11 @@ respond response results then e m s out =
 pub data Test : Type 0 where
   test : Bool → ℕ → State → Test
 
+-- (000, 5.3.2.4)
 abbrev pub lengthOk : List ℕ → Bool
 lengthOk m = eqb (messageLength m) (length m) && leb (length m) 5000
 
--- those before the type
+-- those before the type (RESPONSE: 000, 5.3.15)
 abbrev pub headerTests : Session → List ℕ → List Test
 headerTests e m =
     test (lengthOk m) 2 Closed

@@ -318,6 +318,3 @@ module _ (L : Limits) (es : List Entry) (b : Bounded L) (g : WellFormed L es) wh
 -- two well-formed lists with one store are one list, and a store is the encoding of no list but its entries
 pub one-list : (L : Limits) (es fs : List Entry) → Bounded L → WellFormed L es → WellFormed L fs → encode L es ≡ encode L fs → es ≡ fs
 one-list L es fs b g h e = sym (entries-encode L es b g) ∙ ap (entries L) e ∙ entries-encode L fs b h
-
-pub no-other-list : (L : Limits) (s : List ℕ) (es : List Entry) → Bounded L → WellFormed L es → s ≡ encode L es → es ≡ entries L s
-no-other-list L s es b g e = sym (entries-encode L es b g) ∙ ap (entries L) (sym e)

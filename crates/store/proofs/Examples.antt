@@ -2,7 +2,7 @@
 -- Assumes nothing.
 use mathlib.Core.Path.{_≡_, refl}
 use mathlib.Core.Bool.{true, false}
-use mathlib.Core.List.{List, [], _∷_}
+use mathlib.Core.List.{List, [], _∷_, _++_}
 use Prim.Native.Nat.{ℕ}
 use lib.ListN.{replicate}
 use lib.Count.{ones, onesIn}
@@ -25,6 +25,18 @@ one = entry 7 1 (17 ∷ 4294967295 ∷ [])
 empty-bytes : encode edition1 [] ≡ 0 ∷ 1 ∷ 0 ∷ 0 ∷ 0 ∷ 12 ∷ 0 ∷ 0 ∷ 11 ∷ 12 ∷ 15 ∷ 12 ∷ replicate 3840 0
 unfolding encode header keyRecords peersOf words
 empty-bytes = refl
+
+-- a record byte for byte: issuer, serial, KMAC, start, end, first peer index, peer count
+record-bytes :
+    keyRecord 0x0102
+    (record { issuer = 0x11121314; serial = 0x21222324; kmac = replicate 24 7; start = 0x31323334; end = 0x41424344; peers = 17 ∷ 19 ∷ [] })
+    ≡ 0x11 ∷ 0x12 ∷ 0x13 ∷ 0x14 ∷ 0x21 ∷ 0x22 ∷ 0x23 ∷ 0x24 ∷ replicate 24 7 ++ (0x31 ∷ 0x32 ∷ 0x33 ∷ 0x34 ∷ 0x41 ∷ 0x42 ∷ 0x43 ∷ 0x44 ∷ 0x01 ∷ 0x02 ∷ 0 ∷ 2 ∷ [])
+unfolding keyRecord
+record-bytes = refl
+
+header-bytes : header edition1 2 3 ≡ 0 ∷ 1 ∷ 0 ∷ 2 ∷ 0 ∷ 12 ∷ 0 ∷ 3 ∷ 11 ∷ 12 ∷ 15 ∷ 12 ∷ []
+unfolding header
+header-bytes = refl
 
 sound-two : sound edition1 (encode edition1 (one ∷ entry 8 7 (19 ∷ []) ∷ [])) ≡ true
 unfolding one encode header keyRecord keyRecords peersOf words sound allHold headerOk countsOk sumBefore sumsOk newKey uniqueOk allOdd parityOk unusedOk allBelow allZero part ones onesIn

@@ -6,11 +6,13 @@ use mathlib.Core.List.{List}
 use Prim.Native.Nat.{ℕ, _≤_}
 use lib.ListN.{length}
 use Rattle.octets.specs.Bytes.{Bytes}
+use Rattle.refusal.specs.House.{house}
 use Rattle.store.specs.declared.Limits.{Limits}
-use Rattle.store.specs.declared.Edition.the-variants.{Unknown}
+use Rattle.store.specs.declared.Found.{Found}
+use Rattle.store.specs.declared.Emptied.{Emptied}
 use Rattle.store.specs.Layout.{Bounded, editionOf}
 use Rattle.store.specs.Store.{Entry, encode, entries, sound}
-use Rattle.store.specs.Search.{fits, emptied}
+use Rattle.store.specs.Search.{fits, foundAs, emptiedAs, emptyIn, emptied}
 use Rattle.store.specs.Request.{Request, work}
 use Rattle.store.specs.WellFormed.{WellFormed, AllReadable}
 
@@ -21,7 +23,7 @@ pub record OneStore : Type 0 where
   pub encodes-sound : (L : Limits) (es : List Entry) → Bounded L → WellFormed L es → sound L (encode L es) ≡ true
   pub encodes-back : (L : Limits) (es : List Entry) → Bounded L → WellFormed L es → entries L (encode L es) ≡ es
   pub one-list : (L : Limits) (es fs : List Entry) → Bounded L → WellFormed L es → WellFormed L fs → encode L es ≡ encode L fs → es ≡ fs
-  pub no-other : (L : Limits) (s : List ℕ) (es : List Entry) → Bounded L → WellFormed L es → s ≡ encode L es → es ≡ entries L s
+  pub one-store : (L : Limits) (s t : List ℕ) → Bytes s → Bytes t → sound L s ≡ true → sound L t ≡ true → entries L s ≡ entries L t → s ≡ t
 
 -- every request, whatever its RESULT, keeps a sound store sound, over any list of requests and in any edition
 pub record RequestsKeepSound : Type 0 where
@@ -32,6 +34,11 @@ pub record RequestsKeepSound : Type 0 where
 pub record EmptyPeriodNeverFits : Type 0 where
   pub never : (start end t : ℕ) → end ≤ start → fits start end t ≡ false
 
--- the refusal H1 of `empty` writes nothing
+-- demand 1: a refused `empty` writes nothing
 pub record RefusedEmptyWritesNothing : Type 0 where
-  pub kept : (s : List ℕ) → editionOf (length s) ≡ Unknown → emptied (editionOf (length s)) s ≡ s
+  pub kept : (s : List ℕ) (n : ℕ) → emptyIn (editionOf (length s)) ≡ house n → emptied (editionOf (length s)) s ≡ s
+
+-- the paper's numbers are those of one answer only: a contract that fixes them fixes the answer
+pub record OneAnswer : Type 0 where
+  pub of-find : (a b : Found) → foundAs a ≡ foundAs b → a ≡ b
+  pub of-empty : (a b : Emptied) → emptiedAs a ≡ emptiedAs b → a ≡ b

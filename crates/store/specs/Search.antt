@@ -18,7 +18,7 @@ use Rattle.store.specs.declared.Emptied.the-variants as emptied-as
 
 -- ---- which record is taken
 
--- start ≤ T < end, the three compared as unsigned numbers
+-- start ≤ T < end (as 000, 4.2.3.2), the three compared as unsigned numbers
 abbrev pub fits : ℕ → ℕ → ℕ → Bool
 fits start end t = leb start t && ltb t end
 

@@ -124,7 +124,7 @@ newKey s i = allBelow i (λ j. not (sameKey s i j))
 unfoldable pub uniqueOk : List ℕ → Bool
 uniqueOk s = allBelow (keyCount s) (newKey s)
 
--- every KMAC byte has an odd number of ones (002, 6.2.3.2.3.8 and .16)
+-- every KMAC byte has an odd number of ones (002, 3.3 "DES key" and "Triple-key", 6.2.3.2.3.8)
 abbrev pub isOdd : ℕ → Bool
 isOdd x = eqb (ones x % 2) 1
 

@@ -20,8 +20,8 @@ told-requires c κs =
     let a = load .before .before .before .before .before .args in
     answer-short (load .load .result) (a .message .now) (a .store .now) (a .out .now) (receive .receive .ensures)
 
-is-kept-requires : tie.Need-is-kept-requires
-is-kept-requires c κs = search needs
+is-written-requires : tie.Need-is-written-requires
+is-written-requires c κs = search needs
 
 bytes-of-requires : tie.Need-bytes-of-requires
 bytes-of-requires c κs = search needs
@@ -34,13 +34,13 @@ same-length-2 c = search needs
 
 returns : tie.Need-returns
 returns c =
-    let kept = c .before .before in
-    let told = kept .before in
+    let written = c .before .before in
+    let told = written .before in
     let receive = told .before .before .before .before .before in
     let load = receive .before .before .before in
     let a = load .before .before .before .before .before .args in
     tells (load .load .result) (a .message .now) (a .store .now) (a .out .now) (receive .receive .ensures) (a .session .now) (c .bytes-of .result) (told .told .result) true
-    (load .load .ensures) (told .told .ensures) (sym (c .before .if1 .taken) ∙ kept .is-kept .ensures) (c .bytes-of .ensures)
+    (load .load .ensures) (told .told .ensures) (sym (c .before .if1 .taken) ∙ written .is-written .ensures) (c .bytes-of .ensures)
 
 same-length-3 : tie.Need-same-length-3
 same-length-3 c = search needs
@@ -50,13 +50,13 @@ same-length-4 c = search needs
 
 returns-2 : tie.Need-returns-2
 returns-2 c =
-    let kept = c .before in
-    let told = kept .before in
+    let written = c .before in
+    let told = written .before in
     let receive = told .before .before .before .before .before in
     let load = receive .before .before .before in
     let a = load .before .before .before .before .before .args in
     tells (load .load .result) (a .message .now) (a .store .now) (a .out .now) (receive .receive .ensures) (a .session .now) (a .session .now) (told .told .result) false
-    (load .load .ensures) (told .told .ensures) (sym (c .if1 .left) ∙ kept .is-kept .ensures) refl
+    (load .load .ensures) (told .told .ensures) (sym (c .if1 .left) ∙ written .is-written .ensures) refl
 
 pub kmac-receive-spec : {M : Type 1} → statement M
 kmac-receive-spec =
@@ -65,7 +65,7 @@ kmac-receive-spec =
     load-requires
     receive-requires
     told-requires
-    is-kept-requires
+    is-written-requires
     bytes-of-requires
     same-length
     same-length-2

@@ -1,14 +1,14 @@
--- `kmac::session_buffer::is_kept` meets its contract.
+-- `kmac::session_buffer::is_written` meets its contract.
 -- Assumes nothing.
 use mathlib.Core.Path.{sym, ap, _∙_}
 use Prim.Native.Nat.{ℕ}
 use lib.Dec.{eqb}
 use Rattle.session.specs.declared.Received.{Received}
 use Rattle.session.specs.Rules.{receivedAs}
-use Rattle.kmac.specs.SessionBuffer.{keepsSession}
+use Rattle.kmac.specs.SessionBuffer.{writesSession}
 use borrow.Author.Needs.{needs}
-use Rattle.kmac.proofs.session_buffer.is_kept.Statement.{statement}
-use Rattle.kmac.proofs.session_buffer.is_kept.Tie as tie
+use Rattle.kmac.proofs.session_buffer.is_written.Statement.{statement}
+use Rattle.kmac.proofs.session_buffer.is_written.Tie as tie
 
 enum-known-answer : tie.Need-enum-known-answer
 enum-known-answer c = search needs
@@ -37,10 +37,10 @@ returns-3 c = search needs
 returns-4 : tie.Need-returns-4
 returns-4 c =
     let told = c .before .before in
-    ap (λ (n : ℕ). eqb n 5) (c .house-number .ensures) ∙ sym (ap (λ (r : Received). keepsSession (receivedAs r)) (told .answer2 .given .1))
+    ap (λ (n : ℕ). eqb n 5) (c .house-number .ensures) ∙ sym (ap (λ (r : Received). writesSession (receivedAs r)) (told .answer2 .given .1))
 
-pub is-kept-spec : {M : Type 1} → statement M
-is-kept-spec =
+pub is-written-spec : {M : Type 1} → statement M
+is-written-spec =
     tie.close
     (tie.spec
     enum-known-answer
