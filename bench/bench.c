@@ -139,6 +139,7 @@ static const struct row rows[] = {
     {NULL, {receive_kmac, NULL, NULL, receive_reference}, WORST_DELETES},
     {NULL, {receive_kmac, NULL, NULL, receive_reference}, WORST_VALIDITIES},
     {NULL, {receive_kmac, NULL, NULL, receive_reference}, WORST_ENTITIES},
+    {NULL, {receive_kmac, NULL, NULL, receive_reference}, WORST_ENTITIES_MOVED},
     {NULL, {receive_kmac, NULL, NULL, receive_reference}, WORST_DELETE_ALL},
     {"find, last peer of 64 keys", {find_kmac, NULL, NULL, find_reference}, WORST_DELETES},
     {"soundness: find, last byte wrong", {sound_kmac, NULL, NULL, sound_reference}, WORST_DELETES},

@@ -126,14 +126,16 @@ static void make_validities(struct worst *w)
         centre_validity(message, ISSUER, KMAC_STORE_KEYS, START + i, END + i);
 }
 
-/* The first record, behind which all other peers move, and the longest list of which 250 fit into a message. */
-static void make_entities(struct worst *w)
+/*
+ * The first record, with the longest list of which 250 fit into a message: as long each time, or every other time one
+ * shorter, so that all other peers move.
+ */
+static void make_entities(struct worst *w, const char *name, unsigned shorter)
 {
-    struct message *message =
-        prepare(w, "250 entities, 64 keys held", KMAC_STORE_KEYS, CMD_UPDATE_KEY_ENTITIES, REPLY_LEN + UPDATES);
+    struct message *message = prepare(w, name, KMAC_STORE_KEYS, CMD_UPDATE_KEY_ENTITIES, REPLY_LEN + UPDATES);
     for (unsigned i = 0; i < UPDATES; i++) {
         uint32_t peers[2] = {peer_of(100, i), peer_of(101, i)};
-        centre_entities(message, ISSUER, 1, peers, 2);
+        centre_entities(message, ISSUER, 1, peers, (uint16_t)(2 - i % 2 * shorter));
     }
 }
 
@@ -147,7 +149,8 @@ void worst_make(struct worst worst[WORST_COUNT])
     make_adds(&worst[WORST_ADDS_FULL], "97 adds, 64 keys held", KMAC_STORE_KEYS);
     make_deletes(&worst[WORST_DELETES]);
     make_validities(&worst[WORST_VALIDITIES]);
-    make_entities(&worst[WORST_ENTITIES]);
+    make_entities(&worst[WORST_ENTITIES], "250 entities, as many peers", 0);
+    make_entities(&worst[WORST_ENTITIES_MOVED], "250 entities, other counts", 1);
     prepare(&worst[WORST_DELETE_ALL], "delete all, 64 keys held", KMAC_STORE_KEYS, CMD_DELETE_ALL_KEYS, REPLY_LEN);
     prepare(&worst[WORST_END], "end of update, 64 keys held", KMAC_STORE_KEYS, NOTIF_END_OF_UPDATE, 0);
 }
