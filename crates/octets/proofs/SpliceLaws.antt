@@ -3,13 +3,13 @@
 use mathlib.Core.Path.{_≡_, sym, ap, _∙_}
 use mathlib.Core.List.{List, [], _∷_, _++_, append-assoc, append-nil}
 use Prim.Native.Nat.{ℕ, suc, _+_, _-_, _*_, _/_, _%_, _^_, _≤_, _<_}
-use native.Mathlib.Nat.{add-zero, add-assoc}
+use native.Mathlib.Nat.{add-zero, zero-add, add-assoc}
 use native.Mathlib.Numerals.{add-one}
 use native.Mathlib.Omega.{arith}
 use lib.ListN.{length, getD, set, take, drop, replicate, length-append, length-drop, take-append-drop, length-replicate, replicate-append-replicate, drop-of-length-le, List·getD-append}
 use lib.Seq.{set-at, set-split, take-at, drop-at, drop-drop, length-take-le, take-suc, getD-take, getD-drop}
 use Rattle.octets.specs.Bytes.{part, splice, closed, bytes}
-use Rattle.octets.proofs.PartLaws.{part-cons, part-snoc, part-length, part-mid}
+use Rattle.octets.proofs.PartLaws.{part-add, part-cons, part-snoc, part-length, part-mid}
 use Rattle.octets.proofs.NumberLaws.{length-bytes, bytes-more}
 
 pub splice-none : (d : List ℕ) (i : ℕ) → splice d i [] ≡ d
@@ -69,17 +69,6 @@ splice-splice d i v w k e h =
     (add-assoc i k (length w)
     ∙ ap (λ (x : ℕ). i + (x + length w)) (sym e)
     ∙ ap (λ (x : ℕ). i + x) (sym (length-append v w))))
-
--- the front of a list written after what follows it
-pub splice-head : (d v w : List ℕ) (k : ℕ) → length v ≡ k → k ≤ length d → splice (splice d k w) 0 v ≡ splice d 0 (v ++ w)
-unfolding splice
-splice-head d v w k e h =
-    let z : 0 + length v ≡ k = omega arith in
-    let y : k + length w ≡ 0 + length (v ++ w) = omega (arith, length-append v w) in
-    ap (λ (n : ℕ). v ++ drop n (splice d k w)) z
-    ∙ ap (λ (l : List ℕ). v ++ l) (drop-at (take k d) (w ++ drop (k + length w) d) k (length-take-le k d h))
-    ∙ ap (λ (n : ℕ). v ++ (w ++ drop n d)) y
-    ∙ sym (append-assoc v w (drop (0 + length (v ++ w)) d))
 
 -- a list all written over
 pub splice-all : (d v : List ℕ) → length d ≡ length v → splice d 0 v ≡ v
@@ -141,6 +130,19 @@ closed-mid a g b c i gap n ea eg eb =
     ∙ ap (λ (l : List ℕ). splice (a ++ l) i w) (sym (append-assoc g b c))
     ∙ splice-mid a (g ++ b) c w i ea (omega (arith, length-append g b, length-append b (replicate gap 0), length-replicate {A = ℕ} gap 0))
     ∙ ap (λ (l : List ℕ). a ++ l) (append-assoc b (replicate gap 0) c)
+
+-- two splices, the one in front written last
+pub splice-head : (d : List ℕ) (i : ℕ) (v w : List ℕ) (k : ℕ) → length v ≡ k → i + k ≤ length d → splice (splice d (i + k) w) i v ≡ splice d i (v ++ w)
+unfolding splice part
+splice-head d i v w k e h =
+    let t : List ℕ = w ++ drop (i + k + length w) d in
+    let l : length (take i d) ≡ i = length-take-le i d (omega arith) in
+    let z : i + k + length w ≡ i + length (v ++ w) = omega (arith, length-append v w) in
+    let cut : take (i + k) d ≡ take i d ++ part d i k = part-add d 0 i k ∙ ap (λ (n : ℕ). take i d ++ part d n k) (zero-add i) in
+    ap (λ (x : List ℕ). splice (x ++ t) i v) cut
+    ∙ ap (λ (x : List ℕ). splice x i v) (append-assoc (take i d) (part d i k) t)
+    ∙ splice-mid (take i d) (part d i k) t v i l (part-length d i k h ∙ sym e)
+    ∙ ap (λ (x : List ℕ). take i d ++ x) (sym (append-assoc v w (drop (i + k + length w) d)) ∙ ap (λ (n : ℕ). (v ++ w) ++ drop n d) z)
 
 -- ---- a turn of each loop: d is the list at the start, s the list now
 

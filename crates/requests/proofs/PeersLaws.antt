@@ -1,15 +1,15 @@
 -- The bytes after a record's peers are replaced.
 -- Assumes nothing.
 use mathlib.Core.Path.{_≡_, refl, sym, ap, _∙_}
-use mathlib.Core.List.{List, _∷_, _++_, append-assoc}
+use mathlib.Core.List.{List, _∷_, _++_, append-assoc, append-nil}
 use Prim.Native.Nat.{ℕ, _+_, _*_, _-_, _≤_, _<_}
 use native.Mathlib.Omega.{arith}
-use lib.ListN.{length, take, drop, replicate, length-append, length-replicate, length-drop, take-append-drop}
-use lib.Seq.{length-take-le}
+use lib.ListN.{length, take, drop, replicate, length-append, length-replicate, take-append-drop}
+use lib.Seq.{drop-at, drop-drop, length-take-le}
 use Rattle.octets.specs.Bytes.{Bytes, be16, be32, part, splice, closed, opened}
 use Rattle.octets.specs.Words.{numbers, words}
 use Rattle.octets.proofs.PartLaws.{part-mid}
-use Rattle.octets.proofs.SpliceLaws.{splice-mid, closed-mid}
+use Rattle.octets.proofs.SpliceLaws.{splice-mid, splice-head}
 use Rattle.octets.proofs.WordLaws.{length-numbers, length-words, part-words}
 use Rattle.store.specs.Store.{Entry, header, keyRecord, keyRecords, peersOf, encode, entries}
 use Rattle.store.specs.Request.{updateAt, withPeers}
@@ -23,50 +23,63 @@ use Rattle.requests.proofs.ValidityLaws.{group-middle}
 
 -- ---- a part in the middle, replaced
 
-group-gap : (a b c d : List ℕ) → a ++ (b ++ (c ++ d)) ≡ a ++ ((b ++ c) ++ d)
-group-gap a b c d = simp append-assoc
+-- fewer bytes than before, and more
+pub shrunk : (d v : List ℕ) (i old new tail : ℕ) (s t : List ℕ) → new ≤ old → i + old ≤ length d → length v ≡ new → s ≡ closed d (i + new) (old - new) tail → t ≡ splice s i v
+    → t ≡ replaced d i old new tail v
+unfolding replaced closed
+shrunk d v i old new tail s t h l e es et =
+    let j : i + new + (old - new) ≡ i + old = omega arith in
+    et ∙ ap (λ (x : List ℕ). splice x i v) es
+    ∙ ap (λ (n : ℕ). splice (splice d (i + new) (part d n tail ++ replicate (old - new) 0)) i v) j
+    ∙ splice-head d i v (part d (i + old) tail ++ replicate (old - new) 0) new e (omega arith)
 
-group-moved : (a x v d : List ℕ) → a ++ ((x ++ v) ++ d) ≡ (a ++ x) ++ (v ++ d)
-group-moved a x v d = simp append-assoc
+pub grown : (d v : List ℕ) (i old new tail : ℕ) (s t : List ℕ) → old ≤ new → i + new ≤ length d → length v ≡ new → s ≡ opened d (i + old) (new - old) tail → t ≡ splice s i v
+    → t ≡ replaced d i old new tail v
+unfolding replaced opened
+grown d v i old new tail s t h l e es et =
+    let j : i + old + (new - old) ≡ i + new = omega arith in
+    let z : 0 ≡ old - new = omega arith in
+    et ∙ ap (λ (x : List ℕ). splice x i v) es
+    ∙ ap (λ (n : ℕ). splice (splice d n (part d (i + old) tail)) i v) j
+    ∙ splice-head d i v (part d (i + old) tail) new e (omega arith)
+    ∙ ap (λ (x : List ℕ). splice d i (v ++ x)) (sym (append-nil (part d (i + old) tail)))
+    ∙ ap (λ (n : ℕ). splice d i (v ++ (part d (i + old) tail ++ replicate n 0))) z
+
+group-tail : (w b x y : List ℕ) → (w ++ (b ++ x)) ++ y ≡ w ++ (b ++ (x ++ y))
+group-tail w b x y = simp append-assoc
 
 module _ (A O B W : List ℕ) (i old new tail y z : ℕ) (ea : length A ≡ i) (eo : length O ≡ old) (eb : length B ≡ tail) (ew : length W ≡ new) (ey : old + y ≡ new + z) where
-  abbrev Z : List ℕ
-  Z = replicate z 0
+  -- what is written
+  abbrev X : List ℕ
+  X = W ++ (B ++ replicate (old - new) 0)
 
-  -- what the tail is moved over
-  abbrev M : List ℕ
-  M = B ++ replicate new 0
+  length-X : length X ≡ old + tail + (new - old)
+  length-X = length-append W (B ++ replicate (old - new) 0) ∙ omega (arith, length-append B (replicate {A = ℕ} (old - new) 0), length-replicate {A = ℕ} (old - new) 0)
 
-  length-M : length M ≡ tail + new
-  length-M = length-append B (replicate new 0) ∙ ap (λ (x : ℕ). x + length {A = ℕ} (replicate new 0)) eb ∙ ap (λ (x : ℕ). tail + x) (length-replicate {A = ℕ} new 0)
+  -- and what stays behind it
+  behind : drop (old + tail + (new - old)) (O ++ (B ++ replicate y 0)) ≡ replicate (y - (new - old)) 0
+  behind =
+      let k : ℕ = new - old in
+      let h : k + (y - k) ≡ y = omega arith in
+      ap (λ (x : List ℕ). drop (old + tail + k) x) (sym (append-assoc O B (replicate y 0)))
+      ∙ sym (drop-drop k (old + tail) ((O ++ B) ++ replicate y 0))
+      ∙ ap (λ (x : List ℕ). drop k x) (drop-at (O ++ B) (replicate y 0) (old + tail) (length-append O B ∙ omega arith) ∙ sym (zeros-join k (y - k) y h))
+      ∙ drop-at (replicate k 0) (replicate (y - k) 0) k (length-replicate {A = ℕ} k 0)
 
-  gap-closed : closed (A ++ (O ++ (B ++ replicate y 0))) i old tail ≡ A ++ (B ++ (replicate new 0 ++ Z))
-  gap-closed =
-      closed-mid A O B (replicate y 0) i old tail ea eo eb
-      ∙ ap (λ (x : List ℕ). A ++ (B ++ x)) (zeros-join old y (new + z) ey ∙ sym (zeros-join new z (new + z) refl))
-
-  gap-opened : opened (A ++ (B ++ (replicate new 0 ++ Z))) i new tail ≡ A ++ (take new M ++ (B ++ Z))
-  unfolding opened
-  gap-opened =
-      let d : List ℕ = A ++ (B ++ (replicate new 0 ++ Z)) in
-      let X : List ℕ = take new M in
-      let U : List ℕ = drop new M in
-      let lx : length X ≡ new = length-take-le new M (omega (arith, length-M)) in
-      let lv : length U ≡ tail = length-drop new M ∙ omega (arith, length-M) in
-      let at : length (A ++ X) ≡ i + new = length-append A X ∙ omega arith in
-      ap (λ (x : List ℕ). splice d (i + new) x) (part-mid A B (replicate new 0 ++ Z) i tail ea eb)
-      ∙ ap (λ (x : List ℕ). splice x (i + new) B)
-      (group-gap A B (replicate new 0) Z ∙ ap (λ (x : List ℕ). A ++ (x ++ Z)) (sym (take-append-drop new M)) ∙ group-moved A X U Z)
-      ∙ splice-mid (A ++ X) U Z B (i + new) at (lv ∙ sym eb)
-      ∙ append-assoc A X (B ++ Z)
-
-  replaced-middle : replaced (A ++ (O ++ (B ++ replicate y 0))) i old new tail W ≡ A ++ (W ++ (B ++ Z))
+  replaced-middle : replaced (A ++ (O ++ (B ++ replicate y 0))) i old new tail W ≡ A ++ (W ++ (B ++ replicate z 0))
   unfolding replaced
   replaced-middle =
-      let lx : length (take new M) ≡ new = length-take-le new M (omega (arith, length-M)) in
-      ap (λ (x : List ℕ). splice (opened x i new tail) i W) gap-closed
-      ∙ ap (λ (x : List ℕ). splice x i W) gap-opened
-      ∙ splice-mid A (take new M) (B ++ Z) W i ea (lx ∙ sym ew)
+      let Y : List ℕ = replicate y 0 in
+      let E : List ℕ = O ++ (B ++ Y) in
+      let n : ℕ = old + tail + (new - old) in
+      let le : length E ≡ old + tail + y = length-append O (B ++ Y) ∙ omega (arith, length-append B Y, length-replicate {A = ℕ} y 0) in
+      ap (λ (x : List ℕ). splice (A ++ E) i (W ++ (x ++ replicate (old - new) 0)))
+      (ap (λ (x : List ℕ). part x (i + old) tail) (sym (append-assoc A O (B ++ Y))) ∙ part-mid (A ++ O) B Y (i + old) tail (length-append A O ∙ omega arith) eb)
+      ∙ ap (λ (x : List ℕ). splice (A ++ x) i X) (sym (take-append-drop n E))
+      ∙ splice-mid A (take n E) (drop n E) X i ea (length-take-le n E (omega arith) ∙ sym length-X)
+      ∙ ap (λ (x : List ℕ). A ++ (X ++ x)) behind
+      ∙ ap (λ (x : List ℕ). A ++ x) (group-tail W B (replicate (old - new) 0) (replicate (y - (new - old)) 0)
+      ∙ ap (λ (x : List ℕ). W ++ (B ++ x)) (zeros-join (old - new) (y - (new - old)) z (omega arith)))
 
 -- ---- the peers of a record, replaced
 

@@ -1,9 +1,10 @@
 -- The changes to the bytes of a store that the requests are made of.
 -- Assumes nothing.
 use mathlib.Core.Path.{_≡_}
-use mathlib.Core.List.{List}
-use Prim.Native.Nat.{ℕ, zero, suc, _+_}
-use Rattle.octets.specs.Bytes.{get16, be16, splice, closed, opened}
+use mathlib.Core.List.{List, _++_}
+use Prim.Native.Nat.{ℕ, zero, suc, _+_, _-_}
+use lib.ListN.{replicate}
+use Rattle.octets.specs.Bytes.{get16, be16, part, splice}
 use Rattle.store.specs.Store.{keyCount, peerCount, first, count}
 use Rattle.requests.specs.declared.Counts.{Counts}
 
@@ -23,6 +24,6 @@ unfoldable pub renumbered : List ℕ → ℕ → ℕ → ℕ → List ℕ
 renumbered s i zero p = s
 renumbered s i (suc n) p = renumbered (splice s (i + 40) (be16 p)) (i + 44) n (p + get16 s (i + 42))
 
--- the old bytes at index i are replaced by new ones, and the tail behind them is moved
+-- the old bytes at index i are replaced by new ones, the tail behind them is moved, and what falls free is zero
 unfoldable pub replaced : List ℕ → ℕ → ℕ → ℕ → ℕ → List ℕ → List ℕ
-replaced s i old new tail v = splice (opened (closed s i old tail) i new tail) i v
+replaced s i old new tail v = splice s i (v ++ (part s (i + old) tail ++ replicate (old - new) 0))

@@ -25,8 +25,12 @@ fn replace(s: &mut [u8], i: usize, old: usize, new: usize, tail: usize, m: &[u8]
     requires { ⌜ (i + old + tail ≤ length (now s)) × (i + new + tail ≤ length (now s)) × (at + new ≤ length (now m)) ⌝ }
     ensures { λ _. ⌜ now (s .exit) ≡ replaced (now (s .entry)) i old new tail (part (now (m .entry)) at new) ⌝ }
 {
-    close_gap(s, i, old, tail);
-    open_gap(s, i, new, tail);
+    if new < old {
+        close_gap(s, i + new, old - new, tail);
+        copy(s, i, m, at, new);
+        return;
+    }
+    open_gap(s, i + old, new - old, tail);
     copy(s, i, m, at, new);
 }
 

@@ -56,7 +56,7 @@ reports n e m written after session number en ea es =
             session-is = es;
             store-is = refl;
             output-is = ea ∙ ap₂ (λ (x : List ℕ) (k : ℕ). splice x 0 (replyHead (e .own) (e .peer) k (e .next) 0 n)) ew en
-                ∙ splice-head out head rs 23 refl (omega arith)
+                ∙ splice-head out 0 head rs 23 refl (omega arith)
                 ∙ ap (λ (k : ℕ). splice out 0 (replyHead (e .own) (e .peer) (transaction m) (e .next) 0 k ++ rs)) (sym el);
           };
     }
