@@ -1,0 +1,3 @@
+// Lines of text for the console: digits, words, and what a line asks.
+pub mod digits;
+pub mod words;
