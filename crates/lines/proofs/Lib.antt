@@ -1,3 +1,4 @@
 pub mod DigitLaws
 pub mod HexLaws
 pub mod WordLaws
+pub mod OrderLaws
