@@ -70,7 +70,7 @@ searchOrder s =
 
 unfoldable pub keysOrder : List ℕ → Order
 keysOrder s =
-    onValue command.Keys (decimalField (word s 1) 1 65535) (λ place.
+    onValue command.Keys (decimalField (word s 1) 0 65535) (λ place.
     onValue command.Keys (hexField (word s 2) 16) (λ ra.
     onValue command.Keys (hexField (word s 3) 16) (λ rb. order.Keys place ra rb)))
 

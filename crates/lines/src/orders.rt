@@ -168,7 +168,7 @@ fn search(line: &[u8]) -> Order
 fn keys(line: &[u8]) -> Order
     ensures { λ r. ⌜ r ≡ keysOrder (now (line .entry)) ⌝ }
 {
-    let place = match decimal_field(line, 1, 1, 65535) {
+    let place = match decimal_field(line, 1, 0, 65535) {
         Field::Value(v) => v,
         Field::Bad(f) => return Order::Bad(f, Command::Keys),
     };

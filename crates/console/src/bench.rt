@@ -1,0 +1,126 @@
+// The module at the bench: the session, the store and the session keys that the lines work on.
+use crate::answers::shown;
+use crate::faults::bad;
+use crate::faults::help;
+use crate::faults::too_long;
+use crate::faults::unknown;
+use crate::sessions::begin;
+use crate::sessions::receive;
+use crate::show::held;
+use crate::stores::empty;
+use crate::stores::search;
+use crate::stores::take;
+use crate::text::line;
+use crate::units::build;
+use crate::units::check;
+use crate::units::hold;
+use lines::orders::Order;
+use lines::orders::read;
+use session::Session;
+ghost use mathlib.Core.Path.{_≡_};
+ghost use Prim.Native.Nat.{_≤_};
+ghost use lib.ListN.{length};
+
+pub struct Bench {
+    pub session: Session,
+    // Whether session keys are held.
+    pub held: bool,
+    // The number of the line that is read, and how many bytes of it are there: more than it has room for where it is too long.
+    pub line: u64,
+    pub filled: usize,
+    // Whether there may be more input.
+    pub more: bool,
+}
+
+impl Bench {
+    pub fn new() -> Bench {
+        let session = Session {
+            state: Session::CLOSED,
+            own: 0,
+            peer: 0,
+            next: 0,
+            expected: 0,
+        };
+        Bench {
+            session,
+            held: false,
+            line: 1,
+            filled: 0,
+            more: true,
+        }
+    }
+
+    // What a line asks is done.
+    fn obey(mut self, text: &[u8], store: &mut [u8], keys: &mut [u8]) -> Bench
+        requires { ⌜ (length (now store) ≡ 3852) × (length (now keys) ≡ 24) ⌝ }
+    {
+        match read(text) {
+            Order::Nothing => {}
+            Order::Note => line(text),
+            Order::Begin(own, peer, number) => {
+                self.session = begin(self.session, own, peer, number);
+            }
+            Order::Message => {
+                self.session = receive(self.session, text, store);
+            }
+            Order::Search(peer, t) => search(store, peer, t),
+            Order::Keys(place, ra, rb) => {
+                self.held = hold(self.held, store, place, ra, rb, keys);
+            }
+            Order::Build(destination, direction) => {
+                build(self.held, text, keys, destination, direction);
+            }
+            Order::Check(destination, direction) => {
+                check(self.held, text, keys, destination, direction);
+            }
+            Order::Store => take(text, store),
+            Order::Show => {
+                held(store);
+                shown(self.session);
+            }
+            Order::Empty => empty(store),
+            Order::Help => help(),
+            Order::Unknown => unknown(self.line),
+            Order::Bad(fault, command) => bad(self.line, fault, command),
+        }
+        self
+    }
+
+    // The line has come to its end.
+    pub fn end_line(self, text: &[u8], store: &mut [u8], keys: &mut [u8]) -> Bench
+        requires { ⌜ (length (now store) ≡ 3852) × (length (now keys) ≡ 24) ⌝ }
+    {
+        let n = self.filled;
+        if text.len() < n {
+            too_long(self.line);
+            return self.next_line();
+        }
+        let done = self.obey(&text[..n], store, keys);
+        done.next_line()
+    }
+
+    fn next_line(mut self) -> Bench {
+        self.filled = 0;
+        self.line = std::num::wrapping_add_u64(self.line, 1);
+        self
+    }
+
+    // Takes the bytes of a chunk between two indexes to the end of the line.
+    pub fn append(mut self, line: &mut [u8], chunk: &[u8], from: usize, end: usize) -> Bench
+        requires { ⌜ (from ≤ «end») × («end» ≤ length (now chunk)) ⌝ }
+    {
+        let n = self.filled;
+        let k = end - from;
+        let room = line.len();
+        if room < n {
+            return self;
+        }
+        if room - n < k {
+            self.filled = room + 1;
+            return self;
+        }
+        octets::copy(line, n, chunk, from, k);
+        self.filled = n + k;
+        self
+    }
+}
