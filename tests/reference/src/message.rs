@@ -221,7 +221,7 @@ pub fn notif_response(
 }
 
 /// Header and body.
-fn assemble(
+pub fn assemble(
     receiver: Identity,
     sender: Identity,
     transaction: u32,

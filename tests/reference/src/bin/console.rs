@@ -1,0 +1,329 @@
+//! A second console: reads the lines that crates/console reads, and prints what it must print.
+
+use reference::authentication::{build, check, session_keys};
+use reference::hex::encode;
+use reference::session::{begin, receive, Answer, Session, CLOSED, OPEN, WAITING};
+use reference::store::{self, decode, find};
+use reference::{Identity, OUTPUT_LENGTH};
+use std::io::Read;
+
+/// The longest line.
+const LINE: usize = 10_010;
+
+const USAGE: [(&str, &str); 10] = [
+    (
+        "begin",
+        "begin OWN PEER NUMBER (identities of 8 hex digits, NUMBER 0 to 65535)",
+    ),
+    ("message", "message HEX (two hex digits a byte)"),
+    ("search", "search PEER T (8 hex digits each)"),
+    (
+        "keys",
+        "keys PLACE RA RB (PLACE 0 to 65535, the first being 1; random numbers of 16 hex digits)",
+    ),
+    (
+        "build",
+        "build DESTINATION DIRECTION DATA (6 hex digits, 0 or 1, two hex digits a byte)",
+    ),
+    (
+        "check",
+        "check DESTINATION DIRECTION UNIT (6 hex digits, 0 or 1, two hex digits a byte)",
+    ),
+    ("store", "store HEX (3852 bytes, two hex digits a byte)"),
+    ("show", "show"),
+    ("empty", "empty"),
+    ("help", "help"),
+];
+
+/// The reason of each refusal, H1 first.
+const REASONS: [&str; 13] = [
+    "store is not 3852 bytes",
+    "output under 1032 bytes",
+    "session is closed",
+    "message shorter than a header",
+    "no valid session init",
+    "own identity is the peer's",
+    "unit is not 9 to 1032 bytes",
+    "MAC differs",
+    "no user data, or ETY, MTI or direction wrong",
+    "user data not 1 to 1023 bytes",
+    "no key fits",
+    "store is unsound",
+    "key is not 24 bytes",
+];
+
+/// What a line prints, or why it is not read.
+type Said = Result<(), &'static str>;
+
+struct Bench {
+    session: Session,
+    store: Vec<u8>,
+    keys: Option<[u8; 24]>,
+}
+
+fn main() {
+    let mut input = Vec::new();
+    std::io::stdin()
+        .read_to_end(&mut input)
+        .expect("standard input can be read");
+    let mut lines: Vec<&[u8]> = input.split(|&byte| byte == b'\n').collect();
+    if lines.last().is_some_and(|line| line.is_empty()) {
+        lines.pop();
+    }
+    let mut bench = Bench {
+        session: Session {
+            state: CLOSED,
+            own: [0; 4],
+            peer: [0; 4],
+            next: 0,
+            expected: 0,
+        },
+        store: store::encode(&[]),
+        keys: None,
+    };
+    for (number, line) in lines.iter().enumerate() {
+        bench.line(number + 1, line);
+    }
+}
+
+fn refused(h: u8) {
+    println!("refused H{h} {}", REASONS[usize::from(h) - 1]);
+}
+
+/// A number of so many hex digits, as bytes.
+fn digits<const N: usize>(word: &str) -> Result<[u8; N], &'static str> {
+    if !word.bytes().all(|byte| byte.is_ascii_hexdigit()) {
+        return Err("not hex digits");
+    }
+    if word.len() != 2 * N {
+        return Err("wrong number of hex digits");
+    }
+    Ok(reference::hex::decode(word))
+}
+
+fn bytes(word: &str) -> Result<Vec<u8>, &'static str> {
+    if !word.bytes().all(|byte| byte.is_ascii_hexdigit()) {
+        return Err("not hex digits");
+    }
+    if word.len() % 2 != 0 {
+        return Err("odd number of hex digits");
+    }
+    let pair = |i| u8::from_str_radix(&word[i..i + 2], 16).expect("two hex digits");
+    Ok((0..word.len()).step_by(2).map(pair).collect())
+}
+
+fn decimal(word: &str, most: u64) -> Result<u64, &'static str> {
+    if !word.bytes().all(|byte| byte.is_ascii_digit()) {
+        return Err("not a decimal number");
+    }
+    if word.len() > 16 {
+        return Err("number out of range");
+    }
+    let number: u64 = word.parse().expect("at most 16 digits");
+    if number > most {
+        return Err("number out of range");
+    }
+    Ok(number)
+}
+
+impl Bench {
+    fn line(&mut self, number: usize, line: &[u8]) {
+        if line.len() > LINE {
+            println!("line {number}: line too long: expected at most 10010 characters");
+            return;
+        }
+        let text = String::from_utf8_lossy(line);
+        if text.starts_with('#') {
+            println!("{text}");
+            return;
+        }
+        let words: Vec<&str> = text
+            .split([' ', '\t', '\r'])
+            .filter(|w| !w.is_empty())
+            .collect();
+        let Some((name, fields)) = words.split_first() else {
+            return;
+        };
+        let Some((_, usage)) = USAGE.iter().find(|(command, _)| command == name) else {
+            println!("line {number}: no such command: help lists them");
+            return;
+        };
+        if let Err(fault) = self.command(name, fields) {
+            println!("line {number}: {fault}: expected {usage}");
+        }
+    }
+
+    fn command(&mut self, name: &str, fields: &[&str]) -> Said {
+        let count = match name {
+            "begin" | "keys" | "build" | "check" => 3,
+            "search" => 2,
+            "message" | "store" => 1,
+            _ => 0,
+        };
+        if fields.len() < count {
+            return Err("too few words");
+        }
+        if fields.len() > count {
+            return Err("too many words");
+        }
+        match name {
+            "begin" => self.begin(fields)?,
+            "message" => self.message(&bytes(fields[0])?),
+            "search" => self.search(digits(fields[0])?, digits(fields[1])?),
+            "keys" => self.hold(fields)?,
+            "build" => self.build(
+                digits(fields[0])?,
+                decimal(fields[1], 1)?,
+                &bytes(fields[2])?,
+            ),
+            "check" => self.check(
+                digits(fields[0])?,
+                decimal(fields[1], 1)?,
+                &bytes(fields[2])?,
+            ),
+            "store" => self.take(bytes(fields[0])?),
+            "show" => self.show(),
+            "empty" => self.take_empty(),
+            _ => help(),
+        }
+        Ok(())
+    }
+
+    fn begin(&mut self, fields: &[&str]) -> Said {
+        let own: Identity = digits(fields[0])?;
+        let peer: Identity = digits(fields[1])?;
+        let number = decimal(fields[2], 65_535)? as u16;
+        let mut out = [0; OUTPUT_LENGTH];
+        match begin(own, peer, number, &mut out) {
+            Ok((session, n)) => {
+                self.session = session;
+                println!("session init {}", encode(&out[..n]));
+            }
+            Err(h) => refused(h),
+        }
+        Ok(())
+    }
+
+    fn message(&mut self, message: &[u8]) {
+        let mut out = [0; OUTPUT_LENGTH];
+        let (session, answer) = receive(self.session, message, &mut self.store, &mut out);
+        self.session = session;
+        match answer {
+            Answer::Reply(n) => reply(&out[..n]),
+            Answer::Opened => println!("opened"),
+            Answer::Ended => println!("ended"),
+            Answer::Refused(h) => refused(h),
+        }
+    }
+
+    fn search(&self, peer: Identity, t: [u8; 4]) {
+        match find(&self.store, &peer, u32::from_be_bytes(t)) {
+            Ok(place) => println!("place {place}"),
+            Err(h) => refused(h),
+        }
+    }
+
+    fn hold(&mut self, fields: &[&str]) -> Said {
+        let place = decimal(fields[0], 65_535)? as usize;
+        let (ra, rb) = (digits(fields[1])?, digits(fields[2])?);
+        let Some(entries) = decode(&self.store) else {
+            println!("store unsound");
+            return Ok(());
+        };
+        if place == 0 || place > entries.len() {
+            println!("no record at this place");
+            return Ok(());
+        }
+        let keys = session_keys(&entries[place - 1].kmac, &ra, &rb);
+        self.keys = Some(keys.expect("a KMAC has 24 bytes"));
+        println!("session keys held");
+        Ok(())
+    }
+
+    fn build(&self, destination: [u8; 3], direction: u64, user: &[u8]) {
+        let Some(keys) = self.keys else {
+            println!("no session keys held");
+            return;
+        };
+        let mut out = [0; OUTPUT_LENGTH];
+        match build(&keys, &destination, direction == 1, user, &mut out) {
+            Ok(n) => println!("unit {}", encode(&out[..n])),
+            Err(h) => refused(h),
+        }
+    }
+
+    fn check(&self, destination: [u8; 3], direction: u64, unit: &[u8]) {
+        let Some(keys) = self.keys else {
+            println!("no session keys held");
+            return;
+        };
+        match check(unit, &keys, &destination, direction == 1) {
+            Ok(n) => println!("accepted {}", encode(&unit[1..1 + n])),
+            Err(h) => refused(h),
+        }
+    }
+
+    fn take(&mut self, bytes: Vec<u8>) {
+        if bytes.len() != store::LENGTH {
+            println!("store not taken: it has 3852 bytes");
+            return;
+        }
+        self.store = bytes;
+        println!("store taken");
+    }
+
+    fn take_empty(&mut self) {
+        self.store = store::encode(&[]);
+        println!("store empty");
+    }
+
+    fn show(&self) {
+        match decode(&self.store) {
+            None => println!("store unsound"),
+            Some(entries) => records(&entries),
+        }
+        let session = &self.session;
+        let state = match session.state {
+            WAITING => "waiting",
+            OPEN => "open",
+            _ => "closed",
+        };
+        let (own, peer) = (encode(&session.own), encode(&session.peer));
+        let (next, expected) = (session.next, session.expected);
+        println!("session {state}, own {own}, peer {peer}, next {next}, expected {expected}");
+    }
+}
+
+/// A reply, RESPONSE and each RESULT.
+fn reply(bytes: &[u8]) {
+    println!("reply {}", encode(bytes));
+    print!("  RESPONSE {}", bytes[20]);
+    if bytes.len() > 23 {
+        print!(", RESULT");
+    }
+    for result in &bytes[23..] {
+        print!(" {result}");
+    }
+    println!();
+}
+
+fn records(entries: &[store::Entry]) {
+    let peers: usize = entries.iter().map(|entry| entry.peers.len()).sum();
+    println!("records {}, peers {peers}", entries.len());
+    for (i, entry) in entries.iter().enumerate() {
+        let (issuer, serial) = (encode(&entry.key.issuer), encode(&entry.key.serial));
+        print!("place {}: issuer {issuer} serial {serial}", i + 1);
+        print!(" start {:08x} end {:08x} peers", entry.start, entry.end);
+        for peer in &entry.peers {
+            print!(" {}", encode(peer));
+        }
+        println!();
+    }
+}
+
+fn help() {
+    println!("# and any text: copied to the output");
+    for (_, usage) in USAGE {
+        println!("{usage}");
+    }
+}

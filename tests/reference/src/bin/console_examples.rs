@@ -1,0 +1,363 @@
+//! Prints the input of an example for the console: `console_examples update`, `torn`, `yards` or `lines`.
+
+use reference::authentication::{build, session_keys};
+use reference::hex::encode;
+use reference::message::{self, kind};
+use reference::{Identity, OUTPUT_LENGTH};
+
+const TUG: Identity = [0x02, 0xe6, 0xa5, 0x41];
+/// The tug of the next yard: the last digit differs.
+const NEXT_TUG: Identity = [0x02, 0xe6, 0xa5, 0x42];
+const CENTRE: Identity = [0x05, 0x00, 0x00, 0x17];
+const RBC: Identity = [0x01, 0x00, 0x01, 0x01];
+const NEXT_RBC: Identity = [0x01, 0x00, 0x01, 0x02];
+
+/// Periods in the coding of 000, 4.2.3.1: hour, day, month, year.
+const START: [u8; 4] = [0x00, 0x01, 0x01, 0x26];
+const END: [u8; 4] = [0x23, 0x31, 0x12, 0x26];
+const NOON: [u8; 4] = [0x12, 0x15, 0x11, 0x26];
+
+const RA: [u8; 8] = [0x11, 0x22, 0x33, 0x44, 0x55, 0x66, 0x77, 0x88];
+const RB: [u8; 8] = [0x99, 0xaa, 0xbb, 0xcc, 0xdd, 0xee, 0xff, 0x00];
+
+fn main() {
+    let name = std::env::args().nth(1).unwrap_or_default();
+    match name.as_str() {
+        "update" => update(),
+        "torn" => torn(),
+        "yards" => yards(),
+        "lines" => lines(),
+        _ => {
+            eprintln!("console_examples update|torn|yards|lines");
+            std::process::exit(2);
+        }
+    }
+}
+
+// ---- what a key centre sends
+
+/// The centre's side of a session: the number of its next message.
+struct Session {
+    tug: Identity,
+    number: u16,
+    transaction: u32,
+}
+
+impl Session {
+    /// Begins on both sides, and opens.
+    fn open(tug: Identity, own: u16, number: u16) -> Session {
+        println!("begin {} {} {own}", encode(&tug), encode(&CENTRE));
+        say(&message::session_init(tug, CENTRE, number));
+        Session {
+            tug,
+            number: number.wrapping_add(1),
+            transaction: 1,
+        }
+    }
+
+    /// The next message of a type.
+    fn message(&mut self, kind: u8, body: &[u8]) -> Vec<u8> {
+        let bytes = message::assemble(self.tug, CENTRE, self.transaction, self.number, kind, body);
+        self.number = self.number.wrapping_add(1);
+        self.transaction += 1;
+        bytes
+    }
+
+    fn send(&mut self, kind: u8, body: &[u8]) {
+        say(&self.message(kind, body));
+    }
+
+    fn end(mut self) {
+        self.send(kind::END_OF_UPDATE, &[]);
+    }
+}
+
+fn say(message: &[u8]) {
+    println!("message {}", encode(message));
+}
+
+/// The KMAC of a key, every byte of odd parity.
+fn kmac(serial: u32) -> [u8; 24] {
+    std::array::from_fn(|i| {
+        let byte = (serial as usize * 83 + i * 37 + 5) as u8;
+        byte ^ u8::from(byte.count_ones() % 2 == 0)
+    })
+}
+
+fn identifier(serial: u32) -> Vec<u8> {
+    [&CENTRE[..], &serial.to_be_bytes()].concat()
+}
+
+fn peers(list: &[Identity]) -> Vec<u8> {
+    let mut bytes = (list.len() as u16).to_be_bytes().to_vec();
+    bytes.extend(list.concat());
+    bytes
+}
+
+/// K-STRUCT (000, 5.3.4.1).
+fn key(serial: u32, recipient: Identity, kmac: &[u8; 24], list: &[Identity]) -> Vec<u8> {
+    let mut bytes = vec![24];
+    bytes.extend(identifier(serial));
+    bytes.extend(recipient);
+    bytes.extend(kmac);
+    bytes.extend(peers(list));
+    bytes.extend(START);
+    bytes.extend(END);
+    bytes
+}
+
+fn requests(list: &[Vec<u8>]) -> Vec<u8> {
+    let mut bytes = (list.len() as u16).to_be_bytes().to_vec();
+    bytes.extend(list.concat());
+    bytes
+}
+
+/// K-VALIDITY (000, 5.3.7.1): ends at noon.
+fn until_noon(serial: u32) -> Vec<u8> {
+    [&identifier(serial)[..], &START, &NOON].concat()
+}
+
+/// K-ENTITIES (000, 5.3.8.1).
+fn entities(serial: u32, list: &[Identity]) -> Vec<u8> {
+    [identifier(serial), peers(list)].concat()
+}
+
+// ---- what the bench asks
+
+fn search(peer: Identity, t: [u8; 4]) {
+    println!("search {} {}", encode(&peer), encode(&t));
+}
+
+fn keys(place: usize) {
+    println!("keys {place} {} {}", encode(&RA), encode(&RB));
+}
+
+/// The three bytes of an identity behind its type.
+fn destination(identity: Identity) -> [u8; 3] {
+    [identity[1], identity[2], identity[3]]
+}
+
+fn build_line(to: Identity, direction: u8, user: &[u8]) {
+    println!(
+        "build {} {direction} {}",
+        encode(&destination(to)),
+        encode(user)
+    );
+}
+
+fn check_line(to: Identity, direction: u8, unit: &[u8]) {
+    println!(
+        "check {} {direction} {}",
+        encode(&destination(to)),
+        encode(unit)
+    );
+}
+
+/// The unit that the second program builds under the session keys of a KMAC.
+fn unit(kmac: &[u8; 24], to: Identity, direction: bool, user: &[u8]) -> Vec<u8> {
+    let keys = session_keys(kmac, &RA, &RB).expect("a KMAC has 24 bytes");
+    let mut out = [0; OUTPUT_LENGTH];
+    let n = build(&keys, &destination(to), direction, user, &mut out).expect("user data fit");
+    out[..n].to_vec()
+}
+
+// ---- the examples
+
+fn update() {
+    println!("# A key centre brings a tug its keys. The tug is 02e6a541, the centre 05000017.");
+    println!(
+        "# The tug begins with the number 7 and the centre answers with its own session init."
+    );
+    let mut session = Session::open(TUG, 7, 100);
+    println!("# Three keys. The second names another recipient (RESULT 5), the third is the first again (RESULT 3).");
+    let first = key(1, TUG, &kmac(1), &[RBC, NEXT_RBC]);
+    let other = key(2, NEXT_TUG, &kmac(2), &[RBC]);
+    session.send(kind::ADD_KEYS, &requests(&[first.clone(), other, first]));
+    println!("# Two more keys; a byte of the second has even parity (RESULT 4).");
+    let mut even = kmac(4);
+    even[23] ^= 1;
+    let list = [key(3, TUG, &kmac(3), &[RBC]), key(4, TUG, &even, &[RBC])];
+    session.send(kind::ADD_KEYS, &requests(&list));
+    println!("show");
+    println!("# At noon on 15 November the first key fits for both radio block centres.");
+    search(RBC, NOON);
+    search(NEXT_RBC, NOON);
+    println!("# The first key now ends at that moment, which no longer fits; a key 9 is not held (RESULT 1).");
+    session.send(
+        kind::UPDATE_KEY_VALIDITIES,
+        &requests(&[until_noon(1), until_noon(9)]),
+    );
+    search(RBC, NOON);
+    search(NEXT_RBC, NOON);
+    println!("# The third key is for the other centre alone.");
+    session.send(
+        kind::UPDATE_KEY_ENTITIES,
+        &requests(&[entities(3, &[NEXT_RBC])]),
+    );
+    search(RBC, NOON);
+    search(NEXT_RBC, NOON);
+    println!("# The first key is deleted: the third moves up to place 1.");
+    session.send(kind::DELETE_KEYS, &requests(&[identifier(1)]));
+    println!("show");
+    println!(
+        "# Session keys from it, and a unit to the tug, built here and by the second program."
+    );
+    keys(1);
+    build_line(TUG, 0, b"proceed");
+    check_line(TUG, 0, &unit(&kmac(3), TUG, false, b"proceed"));
+    println!("# The same unit with the direction of an answer, and with one bit changed.");
+    check_line(TUG, 1, &unit(&kmac(3), TUG, false, b"proceed"));
+    let mut damaged = unit(&kmac(3), TUG, false, b"proceed");
+    damaged[3] ^= 1;
+    check_line(TUG, 0, &damaged);
+    println!("# End of update: the session closes, and what comes after it is refused.");
+    let late = Session {
+        number: session.number.wrapping_add(1),
+        ..session
+    };
+    session.end();
+    late.end();
+    println!("show");
+}
+
+fn torn() {
+    println!("# A key list arrives torn. What does the module hold afterwards?");
+    println!("# It holds one key. The list that follows has a second, in a message of 73 bytes.");
+    let mut session = Session::open(TUG, 1, 10);
+    session.send(kind::ADD_KEYS, &requests(&[key(1, TUG, &kmac(1), &[RBC])]));
+    session.end();
+    println!("show");
+    let second = requests(&[key(2, TUG, &kmac(2), &[NEXT_RBC])]);
+    for n in 1..message::HEADER_LENGTH + second.len() {
+        println!("# Torn after byte {n}.");
+        let whole = Session::open(TUG, 1, 10).message(kind::ADD_KEYS, &second);
+        say(&whole[..n]);
+        println!("show");
+    }
+    println!("# The whole message.");
+    Session::open(TUG, 1, 10).send(kind::ADD_KEYS, &second);
+    println!("show");
+}
+
+fn yards() {
+    println!("# A day at two yards. The tug here is 02e6a541, that of the next yard is 02e6a542.");
+    let mut session = Session::open(TUG, 1, 500);
+    session.send(kind::ADD_KEYS, &requests(&[key(1, TUG, &kmac(1), &[RBC])]));
+    println!("# A key for the tug of the next yard, in a message to this one: RESULT 5, and it is not held.");
+    session.send(
+        kind::ADD_KEYS,
+        &requests(&[key(2, NEXT_TUG, &kmac(2), &[RBC])]),
+    );
+    println!("show");
+    println!("# A message for the tug of the next yard: RESPONSE 4, and the session closes.");
+    let mut next = Session {
+        tug: NEXT_TUG,
+        ..session
+    };
+    next.send(kind::DELETE_KEYS, &requests(&[identifier(1)]));
+    println!("show");
+    println!("# A session init for the tug of the next yard does not open a session here.");
+    println!("begin {} {} 1", encode(&TUG), encode(&CENTRE));
+    say(&message::session_init(NEXT_TUG, CENTRE, 500));
+    println!("# The search finds the key for this yard's radio block centre, and none for the next yard's.");
+    search(RBC, NOON);
+    search(NEXT_RBC, NOON);
+    println!("# A unit for the tug of the next yard, under the same keys, is not for this one.");
+    keys(1);
+    let order = unit(&kmac(1), NEXT_TUG, false, b"clear the siding");
+    check_line(NEXT_TUG, 0, &order);
+    check_line(TUG, 0, &order);
+    println!("# The same order for this tug.");
+    build_line(TUG, 0, b"clear the siding");
+    check_line(TUG, 0, &unit(&kmac(1), TUG, false, b"clear the siding"));
+}
+
+/// Every command and every answer of the console, in few lines.
+fn lines() {
+    println!("# Every command, and what is said of a line that is not read.\n");
+    println!("help\n \t \r\nhelp me\nHelp\nbegin 02e6a541 05000017");
+    println!("begin 02e6a541 05000017 1 2\nbegin 02e6a54 05000017 1\nbegin 02e6a54g 05000017 1");
+    println!("begin 02e6a541 05000017 1x\nbegin 02e6a541 05000017 65536");
+    println!("begin 02e6a541 05000017 00000000000000001\nbegin 02e6a541 02E6A541 1");
+    println!("message 00\nmessage\nmessage 0\nmessage 0x\nsearch 01000101 12151126\nsearch 01000101 1215112");
+    println!(
+        "keys 1 1122334455667788 99aabbccddeeff00\nkeys 1 11223344 99aabbccddeeff00\nkeys -1 0 0"
+    );
+    println!(
+        "build e6a541 0 00\ncheck e6a541 0 00\nbuild e6a541 2 00\ncheck e6a5 0 00\nshow\nshow all"
+    );
+    waiting();
+    commands();
+    units();
+    unsound();
+    println!("{}", "x".repeat(10_011));
+    print!("# the end, with no line end");
+}
+
+/// A session that waits, and the longest message.
+fn waiting() {
+    println!("begin\t02e6a541  05000017 65535 \nshow\nmessage 00");
+    say(&Session {
+        tug: TUG,
+        number: 1,
+        transaction: 1,
+    }
+    .message(kind::END_OF_UPDATE, &[]));
+    let mut session = Session::open(TUG, 65_535, 65_535);
+    session.send(kind::SESSION_INIT, &[1, 2, 255]);
+    session.send(kind::ADD_KEYS, &vec![0; 5_001 - message::HEADER_LENGTH]);
+    println!("show");
+}
+
+/// The five commands and the end.
+fn commands() {
+    let mut session = Session::open(TUG, 1, 1);
+    let list = [
+        key(1, TUG, &kmac(1), &[RBC]),
+        key(2, TUG, &kmac(2), &[RBC, NEXT_RBC]),
+    ];
+    session.send(kind::ADD_KEYS, &requests(&list));
+    session.send(kind::UPDATE_KEY_VALIDITIES, &requests(&[until_noon(1)]));
+    session.send(
+        kind::UPDATE_KEY_ENTITIES,
+        &requests(&[entities(1, &[NEXT_RBC, TUG])]),
+    );
+    println!("show");
+    search(RBC, NOON);
+    keys(3);
+    keys(0);
+    keys(2);
+    session.send(
+        kind::DELETE_KEYS,
+        &requests(&[identifier(1), identifier(1)]),
+    );
+    session.send(kind::DELETE_ALL_KEYS, &[]);
+    println!("show");
+    session.end();
+}
+
+/// Units under the session keys that are held, the store being empty.
+fn units() {
+    build_line(TUG, 1, &[0xab; 1_023]);
+    build_line(TUG, 1, &[0xab; 1_024]);
+    check_line(TUG, 1, &[0; 8]);
+    let mut right = unit(&kmac(2), TUG, true, &[1, 2, 3]);
+    check_line(TUG, 1, &right);
+    check_line(TUG, 0, &right);
+    right[0] ^= 0x80;
+    check_line(TUG, 1, &right);
+}
+
+/// A store that is not sound: its key count is 1, and its first record zero.
+fn unsound() {
+    let mut bytes = reference::store::encode(&[]);
+    println!("store {}", encode(&bytes));
+    println!("show");
+    bytes[3] = 1;
+    println!("store {}\nshow", encode(&bytes));
+    search(RBC, NOON);
+    keys(1);
+    let mut session = Session::open(TUG, 1, 1);
+    session.send(kind::DELETE_KEYS, &requests(&[identifier(1)]));
+    println!("store 00\nempty\nshow");
+}
