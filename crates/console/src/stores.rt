@@ -24,7 +24,7 @@ pub fn take(text: &[u8], store: &mut [u8])
     let w = word(text, 1);
     let n = decode(w, &mut bytes);
     if n != STORE {
-        line(b"store not taken: it has 3852 bytes");
+        line(b"store not taken: expected 3852 bytes");
         return;
     }
     octets::copy(store, 0, &bytes, 0, STORE);

@@ -265,7 +265,7 @@ impl Bench {
 
     fn take(&mut self, bytes: Vec<u8>) {
         if bytes.len() != store::LENGTH {
-            println!("store not taken: it has 3852 bytes");
+            println!("store not taken: expected 3852 bytes");
             return;
         }
         self.store = bytes;
