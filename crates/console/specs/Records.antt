@@ -1,7 +1,7 @@
--- The records of a store as numbers, without their KMACs; and the KMAC that session keys are derived from.
+-- The records of a store as numbers, without their KMACs; the KMAC that session keys are derived from; and a destination.
 -- Assumes nothing.
-use mathlib.Core.List.{List}
-use Prim.Native.Nat.{ℕ, _+_, _-_, _*_}
+use mathlib.Core.List.{List, [], _∷_}
+use Prim.Native.Nat.{ℕ, _+_, _-_, _*_, _/_, _%_}
 use Rattle.octets.specs.Bytes.{get16, get32}
 use Rattle.store.specs.Layout.{recordAt, peersAt, edition1}
 use Rattle.store.specs.Store.{keyCount, kmacAt}
@@ -27,3 +27,7 @@ peerOf s j = get32 s (peersAt edition1 + 4 * j)
 -- the KMAC at a place, the first being 1; empty where there is no record
 abbrev pub heldKmac : List ℕ → ℕ → List ℕ
 heldKmac s place = pickList (within 1 (keyCount s) place) (kmacAt s (place - 1))
+
+-- the lowest three bytes of a number
+abbrev pub threeBytes : ℕ → List ℕ
+threeBytes x = x / 65536 % 256 ∷ x / 256 % 256 ∷ x % 256 ∷ []

@@ -8,6 +8,8 @@ use crate::text::word;
 use message::written::HEAD;
 use refusal::Refusal;
 use session::Session;
+ghost use mathlib.Core.Path.{_≡_};
+ghost use lib.ListN.{take};
 
 // Where RESPONSE stands in a reply (000, 5.3.15).
 const RESPONSE_AT: usize = 20;
@@ -41,7 +43,9 @@ pub fn refused(h: Refusal) {
 // ---- replies and units
 
 // The first n bytes of s, or all where there are fewer.
-pub fn front(s: &[u8], n: usize) -> &[u8] {
+pub fn front(s: &[u8], n: usize) -> &[u8]
+    ensures { λ r. ⌜ now r ≡ take n (now (s .entry)) ⌝ }
+{
     if n <= s.len() {
         return &s[..n];
     }

@@ -33,7 +33,7 @@ fn received(answer: Received, out: &[u8]) {
     }
 }
 
-// The bytes of the message stand in hex in word 1.
+// The bytes of the message stand in hex in word 1; a line has room for 5,005 bytes at most.
 pub fn receive(session: Session, text: &[u8], store: &mut [u8]) -> Session {
     let mut bytes = [0u8; 5005];
     let w = word(text, 1);

@@ -18,23 +18,9 @@ ghost use mathlib.Core.Bool.{true};
 ghost use lib.ListN.{length};
 ghost use Rattle.store.specs.Layout.{edition1};
 ghost use Rattle.store.specs.Store.{sound};
-ghost use Rattle.console.specs.Records.{heldKmac};
+ghost use Rattle.console.specs.Records.{heldKmac, threeBytes};
 
 // ---- session keys
-
-fn eight(x: u64) -> [u8; 8] {
-    let mut b = [0u8; 8];
-    octets::put64(&mut b, 0, x);
-    b
-}
-
-fn three(x: u32) -> [u8; 3] {
-    [
-        (x / 65536 % 256) as u8,
-        (x / 256 % 256) as u8,
-        (x % 256) as u8,
-    ]
-}
 
 // Takes the three keys.
 fn keep(keys: &mut [u8], key: [u8; 24])
@@ -47,7 +33,7 @@ fn keep(keys: &mut [u8], key: [u8; 24])
 fn derive(held: bool, kmac: &[u8], ra: u64, rb: u64, keys: &mut [u8]) -> bool
     requires { ⌜ length (now keys) ≡ 24 ⌝ }
 {
-    let derived = authentication::session_keys(kmac, eight(ra), eight(rb));
+    let derived = authentication::session_keys(kmac, des::store(ra), des::store(rb));
     let answer = derived.answer;
     match answer {
         Derived::Made => {
@@ -97,7 +83,18 @@ pub fn hold(held: bool, s: &[u8], place: usize, ra: u64, rb: u64, keys: &mut [u8
 
 // ---- units
 
-// The user data stand in hex in word 3.
+// A destination as its bytes.
+fn three(x: u32) -> [u8; 3]
+    ensures { λ r. ⌜ r ≡ threeBytes x ⌝ }
+{
+    [
+        (x / 65536 % 256) as u8,
+        (x / 256 % 256) as u8,
+        (x % 256) as u8,
+    ]
+}
+
+// The user data stand in hex in word 3; a line has room for 5,005 bytes at most.
 pub fn build(held: bool, text: &[u8], keys: &[u8], destination: u32, direction: bool) {
     if !held {
         line(b"no session keys held");

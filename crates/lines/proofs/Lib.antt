@@ -2,3 +2,4 @@ pub mod DigitLaws
 pub mod HexLaws
 pub mod WordLaws
 pub mod OrderLaws
+pub mod Theorems
