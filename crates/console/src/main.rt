@@ -10,7 +10,6 @@ ghost use lib.ListN.{length};
 mod answers;
 mod bench;
 mod faults;
-mod records;
 mod sessions;
 mod show;
 mod stores;

@@ -1,13 +1,13 @@
 // The held records, in order of place.
-use crate::records::Record;
-use crate::records::is_held;
-use crate::records::peer_at;
-use crate::records::record_at;
 use crate::text::end;
 use crate::text::line;
 use crate::text::number;
 use crate::text::text;
 use crate::text::word;
+use records::Record;
+use records::is_held;
+use records::peer_at;
+use records::record_at;
 use store::field::number_at;
 ghost use mathlib.Core.Path.{_≡_};
 ghost use mathlib.Core.Bool.{true};

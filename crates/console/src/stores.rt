@@ -1,10 +1,10 @@
 // The store: searched, taken and emptied.
 use crate::answers::place;
 use crate::answers::refused;
-use crate::records::STORE;
 use crate::text::line;
 use lines::digits::decode;
 use lines::words::word;
+use records::STORE;
 use store::Found;
 ghost use mathlib.Core.Path.{_≡_};
 ghost use lib.ListN.{length};

@@ -2,13 +2,13 @@
 use crate::answers::front;
 use crate::answers::named;
 use crate::answers::refused;
-use crate::records::is_held;
 use crate::text::line;
 use authentication::Built;
 use authentication::Checked;
 use authentication::Derived;
 use lines::digits::decode;
 use lines::words::word;
+use records::is_held;
 use store::KEYS_AT;
 use store::KMAC;
 use store::RECORD;
@@ -18,7 +18,7 @@ ghost use mathlib.Core.Bool.{true};
 ghost use lib.ListN.{length};
 ghost use Rattle.store.specs.Layout.{edition1};
 ghost use Rattle.store.specs.Store.{sound};
-ghost use Rattle.console.specs.Records.{heldKmac, threeBytes};
+ghost use Rattle.console.specs.Units.{heldKmac, threeBytes};
 
 // ---- session keys
 

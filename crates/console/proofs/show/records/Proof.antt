@@ -7,7 +7,7 @@ use Rattle.store.specs.Layout.{edition1}
 use Rattle.store.specs.Store.{sound, keyCount}
 use Rattle.store.proofs.SoundLaws.{sound-says}
 use Rattle.store.proofs.SearchLaws.{room}
-use Rattle.console.specs.declared.records.Record.{Record}
+use Rattle.records.specs.declared.Record.{Record}
 use native.Mathlib.Omega.{arith}
 use Rattle.console.proofs.show.records.Statement.{statement}
 use Rattle.console.proofs.show.records.Tie as tie

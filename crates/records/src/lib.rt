@@ -11,7 +11,7 @@ ghost use Prim.Native.Nat.{_+_, _*_, _≤_, _<_};
 ghost use lib.ListN.{length};
 ghost use Rattle.store.specs.Layout.{edition1};
 ghost use Rattle.store.specs.Store.{sound};
-ghost use Rattle.console.specs.Records.{recordOf, peerOf};
+ghost use Rattle.records.specs.Records.{recordOf, peerOf};
 
 // The length of a store, and where its peers start.
 pub const STORE: usize = 3852;
@@ -38,6 +38,7 @@ fn limits() -> Limits
     }
 }
 
+// Whether the store is sound.
 pub fn is_held(s: &[u8]) -> bool
     ensures { λ r. ⌜ r ≡ sound edition1 (now (s .entry)) ⌝ }
 {

@@ -1,4 +1,4 @@
--- `console::records::is_held` meets its contract.
+-- `records::is_held` meets its contract.
 -- Assumes nothing.
 use mathlib.Core.Path.{sym, ap, subst, _∙_}
 use Rattle.store.specs.Layout.{edition1, Bounded}
@@ -6,8 +6,8 @@ use Rattle.store.specs.Store.{sound}
 use Rattle.store.specs.declared.Limits.{Limits}
 use borrow.Author.Needs.{needs}
 use native.Mathlib.Omega.{arith}
-use Rattle.console.proofs.records.is_held.Statement.{statement}
-use Rattle.console.proofs.records.is_held.Tie as tie
+use Rattle.records.proofs.is_held.Statement.{statement}
+use Rattle.records.proofs.is_held.Tie as tie
 
 -- the numbers of edition 1 fit
 bounded : Bounded edition1

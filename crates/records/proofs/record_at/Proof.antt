@@ -1,8 +1,8 @@
--- `console::records::record_at` meets its contract.
+-- `records::record_at` meets its contract.
 -- Assumes nothing.
 use borrow.Author.Needs.{needs}
-use Rattle.console.proofs.records.record_at.Statement.{statement}
-use Rattle.console.proofs.records.record_at.Tie as tie
+use Rattle.records.proofs.record_at.Statement.{statement}
+use Rattle.records.proofs.record_at.Tie as tie
 
 mul-at : tie.Need-mul-at
 mul-at c = search needs

@@ -7,7 +7,7 @@ use Prim.Native.Nat.{ℕ, _<_}
 use Rattle.store.specs.Layout.{edition1}
 use Rattle.store.specs.Store.{keyCount, peerCount, sound}
 use Rattle.runs.specs.Alike.{inStoreKey, DifferAt}
-use Rattle.console.specs.Records.{recordOf, peerOf}
+use Rattle.records.specs.Records.{recordOf, peerOf}
 
 -- the counts, every record and every peer
 pub record ShownAlike (s s' : List ℕ) : Type 0 where

@@ -12,7 +12,7 @@ use Rattle.store.specs.Store.{keyCount}
 use Rattle.store.proofs.SoundLaws.{sound-says}
 use Rattle.runs.specs.Alike.{inKey, inRecordKey, inStoreKey, DifferAt}
 use Rattle.runs.proofs.RangeLaws.{SameIn, get16-same, get32-same, before-key, past-key}
-use Rattle.console.specs.Claims.{ShownAlike, ShowsNoKey}
+use Rattle.records.specs.Claims.{ShownAlike, ShowsNoKey}
 
 -- ---- where no KMAC field stands
 
