@@ -29,21 +29,25 @@ take-requires c κs =
 
 add-at : tie.Need-add-at Inv-loop μ-loop
 add-at c =
-    let take = c .before .before .before .before .before .before in
+    let back = c .before .before .before in
+    let take = back .before .before .before in
     let first = take .before .before .before .before in
-    let start = first .before .before .before .before .before .before .before in
+    let loop = first .before .before in
+    let start = loop .before .before .before .before .before in
     omega (arith, first .first .ensures .most, start .good)
 
 loop-less : tie.Need-loop-less Inv-loop μ-loop
 loop-less c =
-    let take = c .before .before .before .before .before .before in
+    let back = c .before .before .before in
+    let take = back .before .before .before in
     let first = take .before .before .before .before in
     let loop = first .before .before in
     omega (arith, first .first .ensures .least, first .before .loop-test .taken)
 
 loop-again : tie.Need-loop-again Inv-loop μ-loop
 loop-again c =
-    let take = c .before .before .before .before .before .before in
+    let back = c .before .before .before in
+    let take = back .before .before .before in
     let first = take .before .before .before .before in
     let loop = first .before .before in
     let k = take .take .kept .1 .1 .1 .1 in

@@ -27,19 +27,25 @@ turn-requires c κs =
 
 sub-turns : tie.Need-sub-turns Inv-loop μ-loop
 sub-turns c =
-    let turn = c .before .before .before .before .before .before in
-    let loop = turn .before .before .before .before .before .before in
-    omega (arith, turn .before .before .before .before .before .loop-test .taken)
+    let back = c .before .before .before in
+    let turn = back .before .before .before in
+    let test = turn .before .before .before .before .before in
+    let loop = test .before in
+    omega (arith, test .loop-test .taken)
 
 loop-less : tie.Need-loop-less Inv-loop μ-loop
 loop-less c =
-    let turn = c .before .before .before .before .before .before in
-    omega (arith, turn .before .before .before .before .before .loop-test .taken)
+    let back = c .before .before .before in
+    let turn = back .before .before .before in
+    let test = turn .before .before .before .before .before in
+    omega (arith, test .loop-test .taken)
 
 loop-again : tie.Need-loop-again Inv-loop μ-loop
 loop-again c =
-    let turn = c .before .before .before .before .before .before in
-    let loop = turn .before .before .before .before .before .before in
+    let back = c .before .before .before in
+    let turn = back .before .before .before in
+    let test = turn .before .before .before .before .before in
+    let loop = test .before in
     let k = turn .turn .kept .1 in
     let v = loop .loop .inv in
     (omega (arith, k .0, v .0), omega (arith, k .1 .0, v .1), omega (arith, k .1 .1 .0, v .2), v .3, v .4)

@@ -50,7 +50,8 @@ returns c =
     let start = stop .before in
     let serial = start .before in
     let issuer = serial .before in
-    cc (first .number-at .ensures .0, c .number-at2 .ensures .0)
+    simp
+    (issuer .get32-at .ensures, serial .get32-at2 .ensures, start .get32-at3 .ensures, stop .get32-at4 .ensures, first .number-at .ensures .0, c .number-at2 .ensures .0)
 
 pub record-at-spec : {M : Type 1} → statement M
 record-at-spec =
