@@ -12,10 +12,10 @@ const CENTRE: Identity = [0x05, 0x00, 0x00, 0x17];
 const RBC: Identity = [0x01, 0x00, 0x01, 0x01];
 const NEXT_RBC: Identity = [0x01, 0x00, 0x01, 0x02];
 
-/// Periods in the coding of 000, 4.2.3.1: hour, day, month, year.
-const START: [u8; 4] = [0x00, 0x01, 0x01, 0x26];
-const END: [u8; 4] = [0x23, 0x31, 0x12, 0x26];
-const NOON: [u8; 4] = [0x12, 0x15, 0x11, 0x26];
+/// Moments as the host brings them: year, month, day, hour, so that their numbers stand in the order of time.
+const START: [u8; 4] = [0x26, 0x01, 0x01, 0x00];
+const END: [u8; 4] = [0x26, 0x12, 0x31, 0x23];
+const NOON: [u8; 4] = [0x26, 0x11, 0x15, 0x12];
 
 const RA: [u8; 8] = [0x11, 0x22, 0x33, 0x44, 0x55, 0x66, 0x77, 0x88];
 const RB: [u8; 8] = [0x99, 0xaa, 0xbb, 0xcc, 0xdd, 0xee, 0xff, 0x00];
@@ -165,6 +165,7 @@ fn unit(kmac: &[u8; 24], to: Identity, direction: bool, user: &[u8]) -> Vec<u8> 
 
 fn update() {
     println!("# A key centre brings a tug its keys. The tug is 02e6a541, the centre 05000017.");
+    println!("# Its host turns moments round to year, month, day, hour: their numbers stand in the order of time.");
     println!(
         "# The tug begins with the number 7 and the centre answers with its own session init."
     );
@@ -279,7 +280,7 @@ fn lines() {
     println!("begin 02e6a541 05000017 1 2\nbegin 02e6a54 05000017 1\nbegin 02e6a54g 05000017 1");
     println!("begin 02e6a541 05000017 1x\nbegin 02e6a541 05000017 65536");
     println!("begin 02e6a541 05000017 00000000000000001\nbegin 02e6a541 02E6A541 1");
-    println!("message 00\nmessage\nmessage 0\nmessage 0x\nsearch 01000101 12151126\nsearch 01000101 1215112");
+    println!("message 00\nmessage\nmessage 0\nmessage 0x\nsearch 01000101 26111512\nsearch 01000101 2611151");
     println!(
         "keys 1 1122334455667788 99aabbccddeeff00\nkeys 1 11223344 99aabbccddeeff00\nkeys -1 0 0"
     );
