@@ -170,6 +170,20 @@ fn update() {
         "# The tug begins with the number 7 and the centre answers with its own session init."
     );
     let mut session = Session::open(TUG, 7, 100);
+    additions(&mut session);
+    updates(&mut session);
+    unit_to_the_tug();
+    println!("# End of update: the session closes, and what comes after it is refused.");
+    let late = Session {
+        number: session.number.wrapping_add(1),
+        ..session
+    };
+    session.end();
+    late.end();
+    println!("show");
+}
+
+fn additions(session: &mut Session) {
     println!("# Three keys. The second names another recipient (RESULT 5), the third is the first again (RESULT 3).");
     let first = key(1, TUG, &kmac(1), &[RBC, NEXT_RBC]);
     let other = key(2, NEXT_TUG, &kmac(2), &[RBC]);
@@ -180,6 +194,9 @@ fn update() {
     let list = [key(3, TUG, &kmac(3), &[RBC]), key(4, TUG, &even, &[RBC])];
     session.send(kind::ADD_KEYS, &requests(&list));
     println!("show");
+}
+
+fn updates(session: &mut Session) {
     println!("# At noon on 15 November the first key fits for both radio block centres.");
     search(RBC, NOON);
     search(NEXT_RBC, NOON);
@@ -200,6 +217,9 @@ fn update() {
     println!("# The first key is deleted: the third moves up to place 1.");
     session.send(kind::DELETE_KEYS, &requests(&[identifier(1)]));
     println!("show");
+}
+
+fn unit_to_the_tug() {
     println!(
         "# Session keys from it, and a unit to the tug, built here and by the second program."
     );
@@ -211,14 +231,6 @@ fn update() {
     let mut damaged = unit(&kmac(3), TUG, false, b"proceed");
     damaged[3] ^= 1;
     check_line(TUG, 0, &damaged);
-    println!("# End of update: the session closes, and what comes after it is refused.");
-    let late = Session {
-        number: session.number.wrapping_add(1),
-        ..session
-    };
-    session.end();
-    late.end();
-    println!("show");
 }
 
 fn torn() {
