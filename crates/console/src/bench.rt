@@ -18,8 +18,10 @@ use lines::orders::Order;
 use lines::orders::read;
 use session::Session;
 ghost use mathlib.Core.Path.{_≡_};
-ghost use Prim.Native.Nat.{_≤_};
+ghost use Prim.Native.Nat.{_-_, _≤_};
 ghost use lib.ListN.{length};
+ghost use Rattle.console.specs.Bench.{atStart, filledBy, lineBy, withFilled, nextLine};
+ghost use Rattle.octets.specs.Bytes.{part};
 
 pub struct Bench {
     pub session: Session,
@@ -33,7 +35,9 @@ pub struct Bench {
 }
 
 impl Bench {
-    pub fn new() -> Bench {
+    pub fn new() -> Bench
+        ensures { λ r. ⌜ r ≡ atStart ⌝ }
+    {
         let session = Session {
             state: Session::CLOSED,
             own: 0,
@@ -99,7 +103,9 @@ impl Bench {
         done.next_line()
     }
 
-    fn next_line(mut self) -> Bench {
+    fn next_line(mut self) -> Bench
+        ensures { λ r. ⌜ r ≡ nextLine self ⌝ }
+    {
         self.filled = 0;
         self.line = std::num::wrapping_add_u64(self.line, 1);
         self
@@ -108,6 +114,7 @@ impl Bench {
     // Takes the bytes of a chunk between two indexes to the end of the line.
     pub fn append(mut self, line: &mut [u8], chunk: &[u8], from: usize, end: usize) -> Bench
         requires { ⌜ (from ≤ «end») × («end» ≤ length (now chunk)) ⌝ }
+        ensures { λ r. ⌜ (r ≡ withFilled self (filledBy (length (now (line .entry))) (self .filled) («end» - from))) × (now (line .exit) ≡ lineBy (now (line .entry)) (self .filled) (part (now (chunk .entry)) from («end» - from))) ⌝ }
     {
         let n = self.filled;
         let k = end - from;
