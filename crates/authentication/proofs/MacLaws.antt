@@ -1,4 +1,4 @@
--- The chain, the two last steps, and two MACs compared as words.
+-- The chain of blocks inside DES, the MAC, and two MACs compared as words.
 -- Assumes nothing.
 use mathlib.Core.Path.{_≡_, refl, sym, ap, ap₂, _∙_, subst}
 use mathlib.Core.Bool.{Bool, true, false}
@@ -6,7 +6,6 @@ use mathlib.Core.List.{List}
 use Prim.Native.Nat.{ℕ, _+_, _-_, _*_, _/_, _^_, _≤_, _<_}
 use native.Mathlib.Numerals.{add-one}
 use native.Mathlib.Omega.{arith}
-use lib.Bits.{bitXor}
 use lib.Dec.{eqb}
 use lib.ListN.{length, drop, length-drop}
 use lib.Seq.{take-all}
@@ -15,43 +14,47 @@ use Rattle.octets.specs.Bytes.{Bytes, bytes, number, part, same}
 use Rattle.octets.proofs.BoolLaws.{same-refl, same-true}
 use Rattle.octets.proofs.NumberLaws.{part-bytes, bytes-one}
 use Rattle.des.specs.Bits.{bits, xorBits, bytesOfBits}
-use Rattle.des.specs.Des.{encipherBits}
-use Rattle.des.specs.Words.{Keys, Enciphers, Deciphers}
-use Rattle.des.proofs.BitLaws.{xor-bits}
+use Rattle.des.specs.Des.{decipherBits}
+use Rattle.des.specs.Words.{Keys}
+use Rattle.des.specs.declared.Halves.{Halves}
+use Rattle.des.specs.Inside.{Entered, Leaves, Adds, EnciphersInside, DeciphersInside}
 use Rattle.des.proofs.ByteLaws.{bytes-bits, length-bytesOfBits}
 use Rattle.authentication.specs.Mac.{block, chain, finish, cbcMac, macString, mac}
 use Rattle.authentication.specs.Unit.{macOf}
 use Rattle.authentication.proofs.StringLaws.{length-string, block-number}
 
--- ---- the chain
+-- ---- the chain, of blocks inside DES
 
-pub chain-start : (k1 s : List ℕ) → bits 64 0 ≡ chain k1 s 0
+pub chain-start : (k1 s : List ℕ) (h : Halves) → Entered h (bits 64 0) → Entered h (chain k1 s 0)
 unfolding chain
-chain-start k1 s = refl
+chain-start k1 s h o = o
 
-pub chain-step : (k1 s keys : List ℕ) (k h x r : ℕ) → 8 * k + 8 ≤ length s → Keys k1 keys → bits 64 h ≡ chain k1 s k → x ≡ number 8 s (8 * k) → Enciphers keys (bitXor h x) r
-    → bits 64 r ≡ chain k1 s (k + 1)
+-- block k of a string, inside DES
+pub block-entered : (s : List ℕ) (k x : ℕ) (h : Halves) → 8 * k + 8 ≤ length s → x ≡ number 8 s (8 * k) → Entered h (bits 64 x) → Entered h (block s k)
+block-entered s k x h l e b = subst (λ (bs : List ℕ). Entered h bs) (block-number s k x l e) b
+
+pub chain-step : (k1 s keys : List ℕ) (k : ℕ) (h b sum r : Halves) → Keys k1 keys → Entered h (chain k1 s k) → Entered b (block s k) → Adds h b sum → EnciphersInside sum keys r
+    → Entered r (chain k1 s (k + 1))
 unfolding chain
-chain-step k1 s keys k h x r l ks e f p =
-    p .by k1 ks ∙ ap (encipherBits k1) (xor-bits 64 h x ∙ ap₂ xorBits e (block-number s k x l f)) ∙ ap (chain k1 s) (sym (add-one k))
+chain-step k1 s keys k h b sum r ks eh eb a p =
+    subst (λ (n : ℕ). Entered r (chain k1 s n)) (sym (add-one k)) (p .by k1 (xorBits (chain k1 s k) (block s k)) ks (a .by (chain k1 s k) (block s k) eh eb))
 
--- ---- the schedules of a triple key, and the two last steps
+-- ---- the schedules of a triple key
 
 pub keyed : (key ks : List ℕ) (n x : ℕ) → 8 * n + 8 ≤ length key → x ≡ number 8 key (8 * n) → Keys (bits 64 x) ks → Keys (block key n) ks
 keyed key ks n x h e k = subst (λ (l : List ℕ). Keys l ks) (block-number key n x h e) k
 
-pub finished : (key k2 k3 : List ℕ) (h d r : ℕ) → Keys (block key 1) k2 → Deciphers k2 h d → Keys (block key 2) k3 → Enciphers k3 d r → bits 64 r ≡ finish key (bits 64 h)
-unfolding finish
-finished key k2 k3 h d r s2 p2 s3 p3 = p3 .by (block key 2) s3 ∙ ap (encipherBits (block key 2)) (p2 .by (block key 1) s2)
+-- ---- the MAC: the chain, the two last steps, and out of DES
 
--- ---- the MAC
-
-pub mac-of : (key d m : List ℕ) (h r : ℕ) → length d ≡ 3 → bits 64 h ≡ chain (block key 0) (macString d m) ((length m + 12) / 8) → bits 64 r ≡ finish key (bits 64 h)
-    → bytes 8 r ≡ mac key d m
-unfolding mac cbcMac
-mac-of key d m h r three eh er =
+pub mac-of : (key d m k2 k3 : List ℕ) (h u v : Halves) (x : ℕ) → length d ≡ 3 → Entered h (chain (block key 0) (macString d m) ((length m + 12) / 8)) → Keys (block key 1) k2
+    → DeciphersInside h k2 u → Keys (block key 2) k3 → EnciphersInside u k3 v → Leaves v x → bytes 8 x ≡ mac key d m
+unfolding mac cbcMac finish
+mac-of key d m k2 k3 h u v x three eh s2 p2 s3 p3 out =
     let n : (length m + 12) / 8 ≡ length (macString d m) / 8 = omega (arith, length-string d m three) in
-    sym (bytes-bits 8 r) ∙ ap (bytesOfBits 8) (er ∙ ap (finish key) (eh ∙ ap (chain (block key 0) (macString d m)) n))
+    let c = chain (block key 0) (macString d m) ((length m + 12) / 8) in
+    sym (bytes-bits 8 x)
+    ∙ ap (bytesOfBits 8)
+    (out .by (finish key c) (p3 .by (block key 2) (decipherBits (block key 1) c) s3 (p2 .by (block key 1) c s2 eh)) ∙ ap (λ (k : ℕ). finish key (chain (block key 0) (macString d m) k)) n)
 
 pub length-mac : (key destination m : List ℕ) → length (mac key destination m) ≡ 8
 unfolding mac cbcMac

@@ -71,6 +71,14 @@ string-at d m i = zeros-past (unpadded d m) ((8 - length (unpadded d m) % 8) % 8
 
 -- ---- blocks
 
+-- behind l | DA the string's numbers are those of m
+pub number-past : (d m : List ℕ) → length d ≡ 3 → (n i : ℕ) → 5 ≤ i → number n (macString d m) i ≡ number n m (i - 5)
+unfolding number
+number-past d m three zero i h = refl
+number-past d m three (suc n) i h =
+    let e : i + n - 5 ≡ i - 5 + n = omega arith in
+    rw (number-past d m three n i h, string-at d m (i + n), byte-past d m three (i + n) (omega arith), e)
+
 pub block-number : (s : List ℕ) (n x : ℕ) → 8 * n + 8 ≤ length s → x ≡ number 8 s (8 * n) → bits 64 x ≡ block s n
 unfolding block
 block-number s n x h e = ap (bits 64) e ∙ bits-number 8 s (8 * n) h

@@ -4,8 +4,10 @@ ghost use mathlib.Core.List.{_++_, map};
 ghost use lib.ListN.{length, take, drop};
 ghost use Rattle.octets.specs.Bytes.{bytes};
 ghost use Rattle.des.specs.Bits.{bits};
+ghost use Rattle.des.specs.Joined.{joined};
 ghost use Rattle.authentication.specs.Keys.{odd as oddOf, sessionKeys, Triples, Drawn};
 use crate::cbc::schedule_at;
+use des::Three;
 
 // The left halves of two words, and the right halves.
 fn lefts(a: u64, b: u64) -> u64
@@ -20,15 +22,6 @@ fn rights(a: u64, b: u64) -> u64
     ((a & 0xffff_ffff) << 32) | (b & 0xffff_ffff)
 }
 
-// DES (K3, DES⁻¹ (K2, DES (K1, x))).
-fn triple(k1: [u64; 16], k2: [u64; 16], k3: [u64; 16], x: u64) -> u64
-    ensures { λ r. ⌜ Triples k1 k2 k3 x r ⌝ }
-{
-    let a = des::encipher_word(k1, x);
-    let b = des::decipher_word(k2, a);
-    des::encipher_word(k3, b)
-}
-
 // One word for each key.
 struct Words {
     one: u64,
@@ -36,19 +29,38 @@ struct Words {
     three: u64,
 }
 
+// DES (K3, DES⁻¹ (K2, DES (K1, x))), the same of y, and DES (K1, DES⁻¹ (K2, DES (K3, x))).
+fn triples(k1: [u64; 16], k2: [u64; 16], k3: [u64; 16], x: u64, y: u64, table: &[u64]) -> Words
+    requires { ⌜ now table ≡ joined ⌝ }
+    ensures { λ r. ⌜ (Triples k1 k2 k3 x (r .one)) × ((Triples k1 k2 k3 y (r .two)) × (Triples k3 k2 k1 x (r .three))) ⌝ }
+{
+    let left = des::enter(x);
+    let s = Three {
+        one: left,
+        two: des::enter(y),
+        three: left,
+    };
+    let a = des::encipher_three(s, k1, k3, table);
+    let b = des::decipher_three(a, k2, table);
+    let c = des::encipher_three(b, k3, k1, table);
+    Words {
+        one: des::leave(c.one),
+        two: des::leave(c.two),
+        three: des::leave(c.three),
+    }
+}
+
 // The three formulas, x being the left halves and y the right.
 fn draw(kmac: &[u8], x: u64, y: u64) -> Words
     requires { ⌜ length (now kmac) ≡ 24 ⌝ }
     ensures { λ r. ⌜ Drawn (now (kmac .entry)) x y (r .one) (r .two) (r .three) ⌝ }
 {
-    let k1 = schedule_at(kmac, 0);
-    let k2 = schedule_at(kmac, 1);
-    let k3 = schedule_at(kmac, 2);
-    Words {
-        one: triple(k1, k2, k3, x),
-        two: triple(k1, k2, k3, y),
-        three: triple(k3, k2, k1, x),
-    }
+    let groups = des::pc2_table();
+    let k1 = schedule_at(kmac, 0, &groups);
+    let k2 = schedule_at(kmac, 1, &groups);
+    let k3 = schedule_at(kmac, 2, &groups);
+    let table = des::joined_table();
+    triples(k1, k2, k3, x, y, &table)
 }
 
 // The bytes of three words.

@@ -1,4 +1,4 @@
-// The string l | DA | m | p that the MAC is made of, byte by byte: it is nowhere copied.
+// The string l | DA | m | p that the MAC is made of, block by block: it is nowhere copied.
 ghost use mathlib.Core.Path.{_≡_};
 ghost use Prim.Native.Nat.{_+_, _*_, _/_, _<_};
 ghost use lib.ListN.{length, getD};
@@ -37,11 +37,14 @@ pub fn blocks(m: &[u8]) -> usize
     (m.len() + 12) / 8
 }
 
-// Block k of l | DA | m | p, as a word.
+// Block k of l | DA | m | p, as a word: eight bytes of m where it lies whole in m, else byte by byte.
 pub fn string_word(k: usize, destination: [u8; 3], m: &[u8]) -> u64
     requires { ⌜ k < (length (now m) + 12) / 8 ⌝ }
     ensures { λ r. ⌜ r ≡ number 8 (macString destination (now (m .entry))) (8 * k) ⌝ }
 {
+    if 1 <= k && 8 * k + 3 <= m.len() {
+        return octets::get64_at(m, 8 * k - 5);
+    }
     let mut r: u64 = 0;
     let mut i: usize = 0;
     while i < 8 {

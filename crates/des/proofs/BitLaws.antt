@@ -1,15 +1,15 @@
 -- The laws of lists of bits: length, parts, shifts, sums, `xor`, and the number that they represent.
 -- Assumes nothing.
 use mathlib.Core.Path.{_≡_, refl, sym, ap, ap₂, _∙_}
-use mathlib.Core.List.{List, [], _∷_, _++_}
+use mathlib.Core.List.{List, _∷_, _++_}
 use Prim.Native.Nat.{ℕ, zero, suc, _+_, _-_, _*_, _/_, _%_, _^_, _<_}
 use native.Mathlib.Nat.{zero-add, suc-add, add-comm, add-assoc, add-mul, mul-assoc, mul-comm, add-mul-div-right, pow-suc}
 use native.Mathlib.Omega.{arith}
 use native.Mathlib.Numerals.{one-add}
 use lib.Pow.{pow-pos, split, high, shr-shr, mod-pow-add}
 use lib.Bits.{bitXor, xor-shr, xor-add-and}
-use lib.ListN.{length, getD, take, drop}
-use lib.Seq.{take-at, drop-at, getD-at}
+use lib.ListN.{length, take, drop}
+use lib.Seq.{take-at, drop-at}
 use Rattle.des.specs.Bits.{bits, valueFrom, value, xorBits}
 
 pub length-bits : (w x : ℕ) → length (bits w x) ≡ w
@@ -30,10 +30,6 @@ take-bits a b x = rw split-bits (take-at (bits a (x / 2 ^ b)) (bits b x) a (leng
 
 pub drop-bits : (a b x : ℕ) → drop a (bits (a + b) x) ≡ bits b x
 drop-bits a b x = rw split-bits (drop-at (bits a (x / 2 ^ b)) (bits b x) a (length-bits a (x / 2 ^ b)))
-
-pub at-bits : (i j x : ℕ) → getD (bits (i + suc j) x) i 0 ≡ x / 2 ^ j % 2
-unfolding bits
-at-bits i j x = rw split-bits (getD-at (bits i (x / 2 ^ suc j)) (x / 2 ^ j % 2) (bits j x) 0 i (length-bits i (x / 2 ^ suc j)))
 
 -- bits above the width do not count
 twice-up : (a w b : ℕ) → a * 2 ^ suc w + b ≡ a * 2 * 2 ^ w + b
@@ -57,13 +53,8 @@ mod-bits w x = sym (low-free w (x / 2 ^ w) (x % 2 ^ w)) ∙ ap (bits w) (split x
 pub join-bits : (a b x y : ℕ) → y < 2 ^ b → bits (a + b) (x * 2 ^ b + y) ≡ bits a x ++ bits b y
 join-bits a b x y h = split-bits a b (x * 2 ^ b + y) ∙ ap₂ (λ (s t : List ℕ). s ++ t) (ap (bits a) (high x b h)) (low-free b x y)
 
--- one bit more
-pub one-bit : (b : ℕ) → b < 2 → bits 1 b ≡ b ∷ []
-unfolding bits
-one-bit b h = ap (λ (n : ℕ). n ∷ []) (omega arith)
-
 -- `xor` is the sum modulo 2 of each bit
-xor-digit : (x y : ℕ) → bitXor x y % 2 ≡ (x % 2 + y % 2) % 2
+pub xor-digit : (x y : ℕ) → bitXor x y % 2 ≡ (x % 2 + y % 2) % 2
 xor-digit x y = omega (arith, xor-add-and x y)
 
 pub xor-bits : (w x y : ℕ) → bits w (bitXor x y) ≡ xorBits (bits w x) (bits w y)

@@ -86,7 +86,7 @@ length-swap n bs h = omega (arith, length-append (drop n bs) (take n bs), length
 
 -- ---- the number that bits represent has these bits
 
-value-high : (n : ℕ) (bs : List ℕ) → Small bs → valueFrom n bs / 2 ^ length bs ≡ n
+pub value-high : (n : ℕ) (bs : List ℕ) → Small bs → valueFrom n bs / 2 ^ length bs ≡ n
 unfolding valueFrom
 value-high n [] s = omega arith
 value-high n (x ∷ bs) s =

@@ -14,6 +14,7 @@ use Rattle.des.specs.Bits.{xorBits}
 use Rattle.des.specs.Tables.{ip, ipInverse}
 use Rattle.des.specs.Des.{permute, cipherFunction, swap, subkey, round, rounds, cipher, encipherBits, decipherBits}
 use Rattle.des.specs.Words.{every}
+use Rattle.des.specs.Joined.{upFrom}
 use Rattle.des.proofs.TestLaws.{map-every}
 use Rattle.des.proofs.BlockLaws.{Small, Block, small-append, small-take, small-drop, small-xor, small-permute, small-swap, length-permute, length-xor, length-f, length-swap}
 use Rattle.des.proofs.KeyLaws.{cipher-by}
@@ -32,10 +33,10 @@ round-halves k a b h =
 halves : (y : List ℕ) → y ≡ take 32 y ++ drop 32 y
 halves y = sym (take-append-drop 32 y)
 
-half-left : (y : List ℕ) → length y ≡ 64 → length (take 32 y) ≡ 32
+pub half-left : (y : List ℕ) → length y ≡ 64 → length (take 32 y) ≡ 32
 half-left y h = omega (arith, length-take 32 y)
 
-half-right : (y : List ℕ) → length y ≡ 64 → length (drop 32 y) ≡ 32
+pub half-right : (y : List ℕ) → length y ≡ 64 → length (drop 32 y) ≡ 32
 half-right y h = omega (arith, length-drop 32 y)
 
 round-block : (k y : List ℕ) → Block 64 y → Block 64 (round k y)
@@ -100,22 +101,18 @@ undo-rounds ks y h (suc n) l =
 
 -- ---- IP and IP⁻¹
 
-getD-map : (f : ℕ → ℕ) (l : List ℕ) (n : ℕ) → n < length l → getD (map f l) n 0 ≡ f (getD l n 0)
+pub getD-map : (f : ℕ → ℕ) (l : List ℕ) (n : ℕ) → n < length l → getD (map f l) n 0 ≡ f (getD l n 0)
 getD-map f [] n h = absurd (not-suc-le-zero h)
 getD-map f (x ∷ l) zero h = refl
 getD-map f (x ∷ l) (suc n) h = getD-map f l n (le-of-suc-le-suc h)
 
 -- one table after another
-compose : (s t x : List ℕ) → every (λ (k : ℕ). ltb (k - 1) (length t)) s ≡ true → permute s (permute t x) ≡ permute (map (λ (k : ℕ). getD t (k - 1) 0) s) x
+pub compose : (s t x : List ℕ) → every (λ (k : ℕ). ltb (k - 1) (length t)) s ≡ true → permute s (permute t x) ≡ permute (map (λ (k : ℕ). getD t (k - 1) 0) s) x
 unfolding permute
 compose s t x h =
     map-every (λ (k : ℕ). ltb (k - 1) (length t)) (λ (k : ℕ). getD (map (λ (j : ℕ). getD x (j - 1) 0) t) (k - 1) 0) (λ (k : ℕ). getD x (getD t (k - 1) 0 - 1) 0)
     (λ k l. getD-map (λ (j : ℕ). getD x (j - 1) 0) t (k - 1) (ltb-true (k - 1) (length t) l)) s h
     ∙ sym (map-map (λ (j : ℕ). getD x (j - 1) 0) (λ (k : ℕ). getD t (k - 1) 0) s)
-
-abbrev upFrom : ℕ → ℕ → List ℕ
-upFrom a zero = []
-upFrom a (suc n) = a ∷ upFrom (suc a) n
 
 up-all : (x : List ℕ) (n i : ℕ) → i + n ≡ length x → map (λ (k : ℕ). getD x (k - 1) 0) (upFrom (suc i) n) ≡ drop i x
 up-all x zero i h =
@@ -127,17 +124,17 @@ up-all x (suc n) i h =
     let s : suc i + n ≡ length x = omega arith in
     ap₂ (λ (y : ℕ) (ys : List ℕ). y ∷ ys) (ap (λ (m : ℕ). getD x m 0) z) (up-all x n (suc i) s) ∙ sym (drop-cons x i 0 l)
 
-up-is : (x : List ℕ) → length x ≡ 64 → permute (upFrom 1 64) x ≡ x
+pub up-is : (n : ℕ) (x : List ℕ) → length x ≡ n → permute (upFrom 1 n) x ≡ x
 unfolding permute
-up-is x h = up-all x 64 0 (sym h)
+up-is n x h = up-all x n 0 (omega arith)
 
-after-ip : (x : List ℕ) → length x ≡ 64 → permute ipInverse (permute ip x) ≡ x
+pub after-ip : (x : List ℕ) → length x ≡ 64 → permute ipInverse (permute ip x) ≡ x
 unfolding ip ipInverse
-after-ip x h = compose ipInverse ip x refl ∙ up-is x h
+after-ip x h = compose ipInverse ip x refl ∙ up-is 64 x h
 
-before-ip : (x : List ℕ) → length x ≡ 64 → permute ip (permute ipInverse x) ≡ x
+pub before-ip : (x : List ℕ) → length x ≡ 64 → permute ip (permute ipInverse x) ≡ x
 unfolding ip ipInverse
-before-ip x h = compose ip ipInverse x refl ∙ up-is x h
+before-ip x h = compose ip ipInverse x refl ∙ up-is 64 x h
 
 ip-block : (x : List ℕ) → Block 64 x → Block 64 (permute ip x)
 unfolding ip

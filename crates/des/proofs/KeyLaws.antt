@@ -1,18 +1,17 @@
 -- The keys of the iterations: made one by one, and the order in which they are used.
 -- Assumes nothing.
 use mathlib.Core.Path.{_≡_, refl, ap, ap₂, _∙_}
+use mathlib.Core.Bool.{Bool, true, false}
 use mathlib.Core.List.{List}
-use Prim.Native.Nat.{ℕ, zero, suc, _+_, _≤_, _<_}
+use Prim.Native.Nat.{ℕ, zero, suc, _+_, _-_, _<_}
 use native.Mathlib.Omega.{arith}
 use borrow.Author.Count.{below-more}
-use borrow.Author.Tests.{leb-true}
-use lib.Dec.{leb}
 use lib.ListN.{length, getD, set}
 use lib.Seq.{getD-set-same, getD-set-other}
 use Rattle.des.specs.Bits.{bits}
 use Rattle.des.specs.Tables.{ip, ipInverse, shifts}
+use Rattle.des.specs.Words.{turned}
 use Rattle.des.specs.Des.{permute, swap, shiftBoth, shifted, subkey, round, rounds, cipher}
-use Rattle.des.proofs.TestLaws.{every-at}
 
 rounds-by : (ks js : ℕ → List ℕ) (n : ℕ) (l : List ℕ) → ((m : ℕ) → m < n → ks m ≡ js m) → rounds ks n l ≡ rounds js n l
 unfolding rounds
@@ -31,9 +30,10 @@ pub shifted-step : (key : List ℕ) (n cd d : ℕ) {s : ℕ} → s ≡ getD shif
 unfolding shifted
 shifted-step key n cd d hs h e = e ∙ ap₂ shiftBoth hs h
 
-pub few : (n : ℕ) → n < 16 → getD shifts n 0 ≤ 28
-unfolding shifts
-few n h = leb-true (getD shifts n 0) 28 (every-at (λ (x : ℕ). leb x 28) shifts refl n h)
+-- the place of a key, whatever the order
+pub turned-below : (back : Bool) (n at : ℕ) → n < 16 → at ≡ turned back n → at < 16
+turned-below true n at h e = omega arith
+turned-below false n at h e = omega arith
 
 -- a cipher looks at its sixteen keys alone
 pub cipher-by : (ks js : ℕ → List ℕ) (x : List ℕ) → ((m : ℕ) → m < 16 → ks m ≡ js m) → cipher ks x ≡ cipher js x

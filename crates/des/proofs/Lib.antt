@@ -6,5 +6,8 @@ pub mod WordLaws
 pub mod KeyLaws
 pub mod CipherLaws
 pub mod ParityLaws
+pub mod LinearLaws
+pub mod JoinedLaws
+pub mod InsideLaws
 pub mod Theorems
 pub mod Examples

@@ -3,9 +3,8 @@
 use mathlib.Core.Path.{_≡_}
 use mathlib.Core.Bool.{Bool, true, false, _&&_}
 use mathlib.Core.List.{List, [], _∷_}
-use Prim.Native.Nat.{ℕ, _-_, _≤_, _<_, _^_}
-use lib.Dec.{leb}
-use lib.ListN.{length, getD}
+use Prim.Native.Nat.{ℕ, _-_, _<_, _^_}
+use lib.ListN.{getD}
 use Rattle.des.specs.Bits.{bits}
 use Rattle.des.specs.Des.{subkey, encipherBits, decipherBits}
 
@@ -18,12 +17,6 @@ pub record Holds (w x : ℕ) (bs : List ℕ) : Type 0 where
 abbrev pub every : (ℕ → Bool) → List ℕ → Bool
 every p [] = true
 every p (x ∷ xs) = p x && every p xs
-
--- a table that picks at most 64 bits of a word of w bits, each entry the number of a bit
-pub record Names (w : ℕ) (table : List ℕ) : Type 0 where
-  pub wide : w ≤ 64
-  pub short : length table ≤ 64
-  pub entries : every (λ k. leb 1 k && leb k w) table ≡ true
 
 -- ks are the keys of the sixteen iterations
 pub record Keys (key : List ℕ) (ks : List ℕ) : Type 0 where

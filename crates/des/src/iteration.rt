@@ -1,30 +1,22 @@
-// The sixteen iterations, with the permutations before and after them.
+// The sixteen iterations on the two halves of a block, each expanded, without the permutations before and after them.
 ghost use mathlib.Core.Path.{_≡_};
 ghost use Prim.Native.Nat.{_<_};
-ghost use lib.ListN.{getD};
-ghost use Rattle.des.specs.Bits.{bits};
-ghost use Rattle.des.specs.Des.{cipherFunction, swap, round as rounded, rounds, cipher};
-ghost use Rattle.des.specs.Words.{Holds, turned};
-use crate::permutation::expand;
-use crate::permutation::initial;
-use crate::permutation::inverse_initial;
-use crate::permutation::permute_p;
+ghost use Rattle.des.specs.Words.{turned};
+ghost use Rattle.des.specs.Joined.{joined};
+ghost use Rattle.des.specs.Inside.{Rounds, Iterates, Passes};
+use crate::Halves;
+use crate::Three;
 use crate::selection::substitute;
 
-// The cipher function f(R, K).
-fn cipher_function(r: u64, k: u64) -> u64
-    ensures { λ q. ⌜ Holds 32 q (cipherFunction (bits 32 r) (bits 48 k)) ⌝ }
+// One iteration.
+fn round(h: Halves, k: u64, table: &[u64]) -> Halves
+    requires { ⌜ now table ≡ joined ⌝ }
+    ensures { λ r. ⌜ Rounds h k r ⌝ }
 {
-    permute_p(substitute(expand(r) ^ k))
-}
-
-// One iteration, on the two halves in one word.
-fn round(lr: u64, k: u64) -> u64
-    ensures { λ r. ⌜ bits 64 r ≡ rounded (bits 48 k) (bits 64 lr) ⌝ }
-{
-    let l = lr >> 32;
-    let r = lr & 0xffff_ffff;
-    (r << 32) | (l ^ cipher_function(r, k))
+    Halves {
+        left: h.right,
+        right: h.left ^ substitute(h.right ^ k, table),
+    }
 }
 
 // The place of the key of an iteration: from the last to the first where `back` is true.
@@ -35,30 +27,71 @@ fn turn(back: bool, n: usize) -> usize
     if back { 15 - n } else { n }
 }
 
-fn iterations(lr: u64, keys: [u64; 16], back: bool) -> u64
-    ensures { λ r. ⌜ bits 64 r ≡ rounds (λ n. bits 48 (getD keys (turned back n) 0)) 16 (bits 64 lr) ⌝ }
+fn iterations(h: Halves, keys: [u64; 16], back: bool, table: &[u64]) -> Halves
+    requires { ⌜ now table ≡ joined ⌝ }
+    ensures { λ r. ⌜ Iterates h keys back 16 r ⌝ }
 {
-    let mut s = lr;
+    let mut s = h;
     let mut n = 0;
     while n < 16 {
         let at = turn(back, n);
-        s = round(s, keys[at]);
+        s = round(s, keys[at], table);
         n += 1;
     }
     s
 }
 
 // The halves exchanged.
-fn exchange(s: u64) -> u64
-    ensures { λ r. ⌜ bits 64 r ≡ swap 32 (bits 64 s) ⌝ }
+fn exchange(h: Halves) -> Halves
+    ensures { λ r. ⌜ (r .left ≡ h .right) × (r .right ≡ h .left) ⌝ }
 {
-    ((s & 0xffff_ffff) << 32) | (s >> 32)
+    Halves {
+        left: h.right,
+        right: h.left,
+    }
 }
 
-// IP, the sixteen iterations, the halves exchanged, and the inverse of IP.
-pub fn crypt(keys: [u64; 16], x: u64, back: bool) -> u64
-    ensures { λ r. ⌜ bits 64 r ≡ cipher (λ n. bits 48 (getD keys (turned back n) 0)) (bits 64 x) ⌝ }
+// The sixteen iterations, and the halves exchanged.
+pub fn pass(h: Halves, keys: [u64; 16], back: bool, table: &[u64]) -> Halves
+    requires { ⌜ now table ≡ joined ⌝ }
+    ensures { λ r. ⌜ Passes h keys back r ⌝ }
 {
-    let s = iterations(initial(x), keys, back);
-    inverse_initial(exchange(s))
+    exchange(iterations(h, keys, back, table))
+}
+
+// The same for three blocks side by side, which a processor works on at once: two with some keys, the third with others.
+fn iterations_three(
+    s: Three,
+    keys: [u64; 16],
+    others: [u64; 16],
+    back: bool,
+    table: &[u64],
+) -> Three
+    requires { ⌜ now table ≡ joined ⌝ }
+    ensures { λ r. ⌜ (Iterates (s .one) keys back 16 (r .one)) × ((Iterates (s .two) keys back 16 (r .two)) × (Iterates (s .three) others back 16 (r .three))) ⌝ }
+{
+    let mut one = s.one;
+    let mut two = s.two;
+    let mut three = s.three;
+    let mut n = 0;
+    while n < 16 {
+        let at = turn(back, n);
+        one = round(one, keys[at], table);
+        two = round(two, keys[at], table);
+        three = round(three, others[at], table);
+        n += 1;
+    }
+    Three { one, two, three }
+}
+
+pub fn pass_three(s: Three, keys: [u64; 16], others: [u64; 16], back: bool, table: &[u64]) -> Three
+    requires { ⌜ now table ≡ joined ⌝ }
+    ensures { λ r. ⌜ (Passes (s .one) keys back (r .one)) × ((Passes (s .two) keys back (r .two)) × (Passes (s .three) others back (r .three))) ⌝ }
+{
+    let t = iterations_three(s, keys, others, back, table);
+    Three {
+        one: exchange(t.one),
+        two: exchange(t.two),
+        three: exchange(t.three),
+    }
 }

@@ -1,22 +1,33 @@
 // The left shifts of the key schedule.
-ghost use Prim.Native.Nat.{_≤_};
+ghost use Prim.Native.Nat.{_<_};
+ghost use lib.ListN.{getD};
 ghost use Rattle.des.specs.Bits.{bits};
-ghost use Rattle.des.specs.Des.{swap, shiftBoth};
+ghost use Rattle.des.specs.Tables.{shifts};
+ghost use Rattle.des.specs.Des.{shiftBoth};
 ghost use Rattle.des.specs.Words.{Holds};
 
-// The low 28 bits of x, n places to the left, and round.
-fn rotate28(x: u64, n: u64) -> u64
-    requires { ⌜ n ≤ 28 ⌝ }
-    ensures { λ r. ⌜ Holds 28 r (swap n (bits 28 x)) ⌝ }
+// Both halves of the 56 bits one place to the left, and round.
+fn shift_one(cd: u64) -> u64
+    ensures { λ r. ⌜ Holds 56 r (shiftBoth 1 (bits 56 cd)) ⌝ }
 {
-    let y = x & 0xfff_ffff;
-    ((y << n) | (y >> (28 - n))) & 0xfff_ffff
+    ((cd << 1) & 0xff_ffff_efff_fffe) ^ ((cd >> 27) & 0x1000_0001)
 }
 
-// Both halves of the 56 bits, n places to the left.
-pub fn shift_both(cd: u64, n: u64) -> u64
-    requires { ⌜ n ≤ 28 ⌝ }
-    ensures { λ r. ⌜ Holds 56 r (shiftBoth n (bits 56 cd)) ⌝ }
+// And two places.
+fn shift_two(cd: u64) -> u64
+    ensures { λ r. ⌜ Holds 56 r (shiftBoth 2 (bits 56 cd)) ⌝ }
 {
-    (rotate28(cd >> 28, n) << 28) | rotate28(cd, n)
+    ((cd << 2) & 0xff_ffff_cfff_fffc) ^ ((cd >> 26) & 0x3000_0003)
+}
+
+// The shifts of iteration n: one where bit n of the number is set, else two.
+pub fn shift(cd: u64, n: usize) -> u64
+    requires { ⌜ n < 16 ⌝ }
+    ensures { λ r. ⌜ Holds 56 r (shiftBoth (getD shifts n 0) (bits 56 cd)) ⌝ }
+{
+    if (0x8103u64 >> (n as u64)) & 1 == 1 {
+        shift_one(cd)
+    } else {
+        shift_two(cd)
+    }
 }

@@ -13,13 +13,14 @@ mul-get64-at c = search needs
 get64-at-requires : tie.Need-get64-at-requires
 get64-at-requires c κs = search needs
 
-schedule-requires : tie.Need-schedule-requires
-schedule-requires c κs = search needs
+schedule-by-requires : tie.Need-schedule-by-requires
+schedule-by-requires c κs = c .before .before .before .pre .1 .1
 
 returns : tie.Need-returns
 returns c =
-    let a = c .before .before .before .args in
-    keyed (a .key .now) (c .schedule .result) (a .n) (c .before .get64-at .result) (omega arith) (c .before .get64-at .ensures) (c .schedule .ensures)
+    let read = c .before in
+    let a = read .before .before .before .args in
+    keyed (a .key .now) (c .schedule-by .result) (a .n) (read .get64-at .result) (omega arith) (read .get64-at .ensures) (c .schedule-by .ensures)
 
 pub schedule-at-spec : {M : Type 1} → statement M
-schedule-at-spec = tie.close (tie.spec mul-get64-at get64-at-requires schedule-requires returns)
+schedule-at-spec = tie.close (tie.spec mul-get64-at get64-at-requires schedule-by-requires returns)

@@ -1,53 +1,39 @@
--- `des::iteration::iterations` meets its contract. The loop's invariant: s holds the block after n iterations.
+-- `des::iteration::iterations` meets its contract. The loop's invariant: s holds the halves after n iterations.
 -- Assumes nothing.
-use mathlib.Core.Path.{_≡_, refl, sym, ap, ap₂, _∙_, subst⁻¹}
-use mathlib.Core.List.{List}
-use mathlib.Core.Bool.{Bool, true, false}
-use Prim.Native.Nat.{ℕ, _+_, _≤_, _<_, _-_}
+use mathlib.Core.Path.{_≡_, subst}
+use Prim.Native.Nat.{ℕ, _-_, _≤_, _<_}
 use native.Mathlib.Omega.{arith}
-use native.Mathlib.Numerals.{add-one}
-use lib.ListN.{getD}
-use Rattle.des.specs.Bits.{bits}
-use Rattle.des.specs.Des as des
-use Rattle.des.specs.Words.{turned}
+use Rattle.des.specs.Inside.{Iterates}
+use Rattle.des.proofs.KeyLaws.{turned-below}
+use Rattle.des.proofs.InsideLaws.{iterate-none, iterate-more}
 use Rattle.des.proofs.iteration.iterations.Statement.{statement}
 use Rattle.des.proofs.iteration.iterations.Tie as tie
 
-abbrev keysOf : List ℕ → Bool → ℕ → List ℕ
-keysOf keys back n = bits 48 (getD keys (turned back n) 0)
-
 abbrev Inv-loop : tie.InvT-loop
-Inv-loop lr back keys s₀ n₀ s n = (n ≤ 16) × (bits 64 s ≡ des.rounds (keysOf keys back) n (bits 64 lr))
+Inv-loop back table keys s₀ n₀ s n = (n ≤ 16) × Iterates s₀ keys back n s
 
 abbrev μ-loop : tie.MeasureT-loop
-μ-loop lr back keys s₀ n₀ s n = 16 - n
-
-within : (back : Bool) (n : ℕ) → n < 16 → turned back n < 16
-within true n h = omega arith
-within false n h = h
-
-next : (ks : ℕ → List ℕ) (n : ℕ) (l s t k : List ℕ) → s ≡ des.rounds ks n l → t ≡ des.round k s → k ≡ ks n → t ≡ des.rounds ks (n + 1) l
-unfolding des.rounds
-next ks n l s t k hs ht hk = ht ∙ ap₂ des.round hk hs ∙ ap (λ (m : ℕ). des.rounds ks m l) (sym (add-one n))
+μ-loop back table keys s₀ n₀ s n = 16 - n
 
 loop-holds : tie.Need-loop-holds Inv-loop μ-loop
-unfolding des.rounds
-loop-holds c = (omega arith, refl)
+loop-holds c =
+    let a = c .before .args in
+    (omega arith, iterate-none (a .h) (a .t2) (a .back))
 
 turn-requires : tie.Need-turn-requires Inv-loop μ-loop
 turn-requires c κs = c .loop-test .taken
 
-read : (c : tie.After-turn Inv-loop μ-loop) → c .turn .result < 16
-read c = subst⁻¹ (λ (m : ℕ). m < 16) (c .turn .ensures) (within (c .before .before .before .args .back) (c .before .before .loop .n) (c .before .loop-test .taken))
+at-below : (c : tie.After-turn Inv-loop μ-loop) → c .turn .result < 16
+at-below c = turned-below (c .before .before .before .before .args .back) (c .before .before .loop .n) (c .turn .result) (c .before .loop-test .taken) (c .turn .ensures)
 
 mul-round : tie.Need-mul-round Inv-loop μ-loop
-mul-round c = omega (arith, read c)
+mul-round c = omega (arith, at-below c)
 
 array-read-round : tie.Need-array-read-round Inv-loop μ-loop
-array-read-round c = read c
+array-read-round c = at-below c
 
 round-requires : tie.Need-round-requires Inv-loop μ-loop
-round-requires c κs = tt
+round-requires c κs = c .before .before .before .before .pre
 
 add-n : tie.Need-add-n Inv-loop μ-loop
 add-n c = omega arith
@@ -57,18 +43,19 @@ loop-less c = omega arith
 
 loop-again : tie.Need-loop-again Inv-loop μ-loop
 loop-again c =
-    let h = c .before .before .before in
-    let keys = h .before .args .t2 in (
+    let l = c .before .before .before in
+    let a = l .before .before .args in
+    let t = c .before .turn in (
       omega arith,
-      next (keysOf keys (h .before .args .back)) (h .loop .n) (bits 64 (h .before .args .lr)) (bits 64 (h .loop .s)) (bits 64 (c .round .result))
-          (bits 48 (getD keys (c .before .turn .result) 0)) (h .loop .inv .1) (c .round .ensures) (ap (λ (m : ℕ). bits 48 (getD keys m 0)) (c .before .turn .ensures)),
+      iterate-more (a .h) (l .loop .s) (c .round .result) (a .t2) (a .back) (l .loop .n) (t .result) (t .ensures) (l .loop .inv .1) (c .round .ensures),
     )
 
 returns : tie.Need-returns Inv-loop μ-loop
 returns c =
-    let a = c .before .before .args in
-    let e : c .before .loop .n ≡ 16 = omega arith in
-    c .before .loop .inv .1 ∙ ap (λ (m : ℕ). des.rounds (keysOf (a .t2) (a .back)) m (bits 64 (a .lr))) e
+    let l = c .before .loop in
+    let a = c .before .before .before .args in
+    let n : l .n ≡ 16 = omega arith in
+    subst (λ (m : ℕ). Iterates (a .h) (a .t2) (a .back) m (l .s)) n (l .inv .1)
 
 pub iterations-spec : {M : Type 1} → statement M
 iterations-spec =

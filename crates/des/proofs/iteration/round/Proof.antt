@@ -1,15 +1,18 @@
 -- `des::iteration::round` meets its contract.
 -- Assumes nothing.
+use mathlib.Core.Path.{refl}
+use Rattle.des.proofs.InsideLaws.{round-sides}
 use borrow.Author.Needs.{needs}
-use Rattle.des.proofs.WordLaws.{rounded}
 use Rattle.des.proofs.iteration.round.Statement.{statement}
 use Rattle.des.proofs.iteration.round.Tie as tie
 
-cipher-function-requires : tie.Need-cipher-function-requires
-cipher-function-requires c κs = search needs
+substitute-requires : tie.Need-substitute-requires
+substitute-requires c κs = search needs
 
 returns : tie.Need-returns
-returns c = rounded (c .before .args .lr) (c .before .args .k) (c .cipher-function .result) (c .before .fits .lr .fits) (c .cipher-function .ensures)
+returns c =
+    let a = c .before .before .before .before .args in
+    round-sides (a .h) _ (a .k) (c .before .substitute .result) (c .before .substitute .ensures) refl refl
 
 pub round-spec : {M : Type 1} → statement M
-round-spec = tie.close (tie.spec cipher-function-requires returns)
+round-spec = tie.close (tie.spec substitute-requires returns)
