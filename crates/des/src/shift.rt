@@ -6,6 +6,9 @@ ghost use Rattle.des.specs.Tables.{shifts};
 ghost use Rattle.des.specs.Des.{shiftBoth};
 ghost use Rattle.des.specs.Words.{Holds};
 
+// Bit n is set where iteration n shifts by one place; the other iterations shift by two.
+const SINGLE_SHIFTS: u64 = 0x8103;
+
 // Both halves of the 56 bits one place to the left, and round.
 fn shift_one(cd: u64) -> u64
     ensures { λ r. ⌜ Holds 56 r (shiftBoth 1 (bits 56 cd)) ⌝ }
@@ -20,12 +23,12 @@ fn shift_two(cd: u64) -> u64
     ((cd << 2) & 0xff_ffff_cfff_fffc) ^ ((cd >> 26) & 0x3000_0003)
 }
 
-// The shifts of iteration n: one where bit n of the number is set, else two.
+// The shifts of iteration n.
 pub fn shift(cd: u64, n: usize) -> u64
     requires { ⌜ n < 16 ⌝ }
     ensures { λ r. ⌜ Holds 56 r (shiftBoth (getD shifts n 0) (bits 56 cd)) ⌝ }
 {
-    if (0x8103u64 >> (n as u64)) & 1 == 1 {
+    if (SINGLE_SHIFTS >> (n as u64)) & 1 == 1 {
         shift_one(cd)
     } else {
         shift_two(cd)

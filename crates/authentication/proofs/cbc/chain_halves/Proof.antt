@@ -12,6 +12,7 @@ use Rattle.des.specs.Inside.{Entered}
 use Rattle.authentication.specs.Mac.{block, chain, macString}
 use Rattle.authentication.proofs.StringLaws.{length-string}
 use Rattle.authentication.proofs.MacLaws.{chain-start, block-entered, chain-step}
+use borrow.Author.Needs.{needs}
 use Rattle.authentication.proofs.cbc.chain_halves.Statement.{statement}
 use Rattle.authentication.proofs.cbc.chain_halves.Tie as tie
 
@@ -82,7 +83,9 @@ add-requires : tie.Need-add-requires Inv-loop μ-loop
 add-requires c κs = tt
 
 encipher-halves-requires : tie.Need-encipher-halves-requires Inv-loop μ-loop
-encipher-halves-requires c κs = entry (c .before .before .before .before .before .before .before .before) .pre .1 .1
+encipher-halves-requires c κs =
+    let l = c .before .before .before .before in
+    entry (l .before .before .before .before) .pre .1 .1
 
 add-k : tie.Need-add-k Inv-loop μ-loop
 add-k c = omega arith
@@ -111,7 +114,7 @@ add-requires-2 : tie.Need-add-requires-2 Inv-loop μ-loop
 add-requires-2 c κs = tt
 
 encipher-halves-requires-2 : tie.Need-encipher-halves-requires-2 Inv-loop μ-loop
-encipher-halves-requires-2 c κs = entry (c .before .before .before .before .before .before) .pre .1 .1
+encipher-halves-requires-2 c κs = search needs
 
 returns : tie.Need-returns Inv-loop μ-loop
 returns c =

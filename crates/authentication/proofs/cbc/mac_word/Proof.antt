@@ -54,8 +54,10 @@ returns c =
     let e = c .before .encipher-halves in
     let second = third .before .before .before .before in
     let d = third .before .before .decipher-halves in
-    let h = second .before .before .chain-halves in
-    let start = second .before .before .before .before .before .before .before .before .before in
+    let first = second .before .before in
+    let h = first .chain-halves in
+    let tables = first .before .before .before in
+    let start = tables .before .before .before .before in
     let a = start .args in
     mac-of (a .key .now) (a .destination) (a .m .now) (second .schedule-at .result) (third .schedule-at2 .result) (h .result) (d .result) (e .result) (c .leave .result) (start .good .1 .0 .1 .0 .1)
     (h .ensures) (second .schedule-at .ensures) (d .ensures) (third .schedule-at2 .ensures) (e .ensures) (c .leave .ensures)

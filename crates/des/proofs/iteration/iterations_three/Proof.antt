@@ -67,8 +67,9 @@ loop-again c =
     let two-at = c .before in
     let one-at = two-at .before in
     let turn-at = one-at .before in
-    let l = turn-at .before .before .loop in
-    let a = turn-at .before .before .before .before .before .before .before .args in
+    let head = turn-at .before .before in
+    let l = head .loop in
+    let a = head .before .before .before .before .before .args in
     let t = turn-at .turn in (
       omega arith,
       (
@@ -82,8 +83,9 @@ loop-again c =
 
 returns : tie.Need-returns Inv-loop μ-loop
 returns c =
-    let l = c .before .loop in
-    let a = c .before .before .before .before .before .before .args in
+    let head = c .before in
+    let l = head .loop in
+    let a = head .before .before .before .before .before .args in
     let n : l .n ≡ 16 = omega arith in
     subst (λ (m : ℕ). Iterates (a .s .one) (a .t2) (a .back) m (l .one) × (Iterates (a .s .two) (a .t2) (a .back) m (l .two) × Iterates (a .s .three) (a .t3) (a .back) m (l .three))) n (l .inv .1)
 
