@@ -18,7 +18,7 @@ use Rattle.octets.proofs.BoolLaws.{and-left, and-right, allBelow-at, same-true}
 use Rattle.des.specs.Bits.{bits, xorBits}
 use Rattle.des.specs.Des.{permute, swap, shiftBoth}
 use Rattle.des.specs.Words.{Holds}
-use Rattle.des.specs.Networks.{exchangeBits, spreadParts, gatherParts}
+use Rattle.des.specs.Networks.{exchangeBits, spreadParts, gatherParts, shiftParts}
 use Rattle.des.specs.Joined.{upFrom}
 use Rattle.des.proofs.BitLaws.{length-bits, xor-digit, xor-bits}
 use Rattle.des.proofs.WordLaws.{recast, xored}
@@ -185,13 +185,10 @@ shift-permute : (n : ℕ) (t bs : List ℕ) → permute (shiftBoth n t) bs ≡ s
 unfolding shiftBoth swap
 shift-permute n t bs = simp (append-permute, take-permute, drop-permute)
 
--- the bits that `high` names n places up, and those that `low` names round
-abbrev pub shiftWord : ℕ → ℕ → ℕ → ℕ → ℕ
-shiftWord n high low cd = bitXor (bitAnd (cd * 2 ^ n % 2 ^ 64) high) (bitAnd (cd / 2 ^ (28 - n)) low)
-
-pub shift-word : (n high low : ℕ) → permutesPowers 56 56 (shiftBoth n (upFrom 1 56)) (shiftWord n high low) ≡ true → (cd : ℕ) → cd < 2 ^ 64
-    → Holds 56 (shiftWord n high low cd) (shiftBoth n (bits 56 cd))
-shift-word n high low test cd h =
-    let linear : Linear (shiftWord n high low) = xor-linear (and-linear high (shl-linear n same-linear)) (and-linear low (shr-linear (28 - n) same-linear)) in
-    recast (by-powers 56 56 (shiftBoth n (upFrom 1 56)) linear test cd h refl)
+pub shift-word : (n high low : ℕ) → permutesPowers 56 56 (shiftBoth n (upFrom 1 56)) (shiftParts n high low) ≡ true → (cd : ℕ) {r : ℕ} → cd < 2 ^ 64 → r ≡ shiftParts n high low cd
+    → Holds 56 r (shiftBoth n (bits 56 cd))
+unfolding shiftParts
+shift-word n high low test cd h e =
+    let linear : Linear (shiftParts n high low) = xor-linear (and-linear high (shl-linear n same-linear)) (and-linear low (shr-linear (28 - n) same-linear)) in
+    recast (by-powers 56 56 (shiftBoth n (upFrom 1 56)) linear test cd h e)
     (shift-permute n (upFrom 1 56) (bits 56 cd) ∙ ap (shiftBoth n) (up-is 56 (bits 56 cd) (length-bits 56 cd)))

@@ -1,7 +1,7 @@
 -- Steps by which the code moves bits of a word, on numbers.
 -- Assumes nothing.
 use mathlib.Core.List.{List, [], _∷_}
-use Prim.Native.Nat.{ℕ, _*_, _/_, _%_, _^_}
+use Prim.Native.Nat.{ℕ, _-_, _*_, _/_, _%_, _^_}
 use lib.Bits.{bitAnd, bitXor}
 
 -- where the bits that m names differ from those d places above them
@@ -18,6 +18,10 @@ spreadParts high n low x = bitXor (bitAnd x high * 2 ^ n % 2 ^ 64) (bitAnd x low
 
 unfoldable pub gatherParts : ℕ → ℕ → ℕ → ℕ → ℕ
 gatherParts high n low x = bitXor (bitAnd x high / 2 ^ n) (bitAnd x low)
+
+-- the bits that `high` names n places up, and those that `low` names round to the other end of 28 bits
+unfoldable pub shiftParts : ℕ → ℕ → ℕ → ℕ → ℕ
+shiftParts n high low cd = bitXor (bitAnd (cd * 2 ^ n % 2 ^ 64) high) (bitAnd (cd / 2 ^ (28 - n)) low)
 
 -- the middle four of each group of six: what E makes of 32 bits, read back
 unfoldable pub middle : List ℕ

@@ -1,36 +1,32 @@
 // The left shifts of the key schedule.
-ghost use Prim.Native.Nat.{_<_};
+ghost use mathlib.Core.Path.{_≡_};
+ghost use Prim.Native.Nat.{_≤_, _<_};
 ghost use lib.ListN.{getD};
 ghost use Rattle.des.specs.Bits.{bits};
 ghost use Rattle.des.specs.Tables.{shifts};
 ghost use Rattle.des.specs.Des.{shiftBoth};
 ghost use Rattle.des.specs.Words.{Holds};
+ghost use Rattle.des.specs.Networks.{shiftParts};
 
 // Bit n is set where iteration n shifts by one place; the other iterations shift by two.
 const SINGLE_SHIFTS: u64 = 0x8103;
 
-// Both halves of the 56 bits one place to the left, and round.
-fn shift_one(cd: u64) -> u64
-    ensures { λ r. ⌜ Holds 56 r (shiftBoth 1 (bits 56 cd)) ⌝ }
+// The bits that `high` names n places up, and those that `low` names round to the other end of a half.
+fn shift_parts(cd: u64, n: u64, high: u64, low: u64) -> u64
+    requires { ⌜ n ≤ 28 ⌝ }
+    ensures { λ r. ⌜ r ≡ shiftParts n high low cd ⌝ }
 {
-    ((cd << 1) & 0xff_ffff_efff_fffe) ^ ((cd >> 27) & 0x1000_0001)
+    ((cd << n) & high) ^ ((cd >> (28 - n)) & low)
 }
 
-// And two places.
-fn shift_two(cd: u64) -> u64
-    ensures { λ r. ⌜ Holds 56 r (shiftBoth 2 (bits 56 cd)) ⌝ }
-{
-    ((cd << 2) & 0xff_ffff_cfff_fffc) ^ ((cd >> 26) & 0x3000_0003)
-}
-
-// The shifts of iteration n.
+// Both halves of the 56 bits shifted to the left as iteration n asks, and round.
 pub fn shift(cd: u64, n: usize) -> u64
     requires { ⌜ n < 16 ⌝ }
     ensures { λ r. ⌜ Holds 56 r (shiftBoth (getD shifts n 0) (bits 56 cd)) ⌝ }
 {
     if (SINGLE_SHIFTS >> (n as u64)) & 1 == 1 {
-        shift_one(cd)
+        shift_parts(cd, 1, 0xff_ffff_efff_fffe, 0x1000_0001)
     } else {
-        shift_two(cd)
+        shift_parts(cd, 2, 0xff_ffff_cfff_fffc, 0x3000_0003)
     }
 }
