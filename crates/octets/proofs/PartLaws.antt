@@ -3,11 +3,11 @@
 use mathlib.Core.Path.{_≡_, refl, sym, ap, _∙_, subst}
 use mathlib.Core.Bool.{Bool, true, false, _&&_}
 use mathlib.Core.List.{List, [], _∷_, _++_}
-use Prim.Native.Nat.{ℕ, zero, suc, _+_, _-_, _≤_, _<_}
+use Prim.Native.Nat.{ℕ, zero, suc, _+_, _-_, _≤_, _<_, min}
 use native.Mathlib.Nat.{add-assoc}
 use native.Mathlib.Numerals.{add-one}
 use native.Mathlib.Omega.{arith}
-use lib.ListN.{length, getD, take, drop, replicate, length-take, length-drop}
+use lib.ListN.{length, getD, take, drop, replicate, length-take, length-drop, List·getD-eq-default}
 use lib.Seq.{drop-cons, take-add, drop-drop, take-at, drop-at, take-all, getD-take, getD-drop}
 use lib.Dec.{eqb}
 use borrow.Author.Tests.{eqb-true, eq-eqb, ne-eqb}
@@ -18,13 +18,20 @@ pub part-none : (s : List ℕ) (i : ℕ) → part s i 0 ≡ []
 unfolding part
 part-none s i = refl
 
-pub part-length : (s : List ℕ) (i n : ℕ) → i + n ≤ length s → length (part s i n) ≡ n
+pub part-long : (s : List ℕ) (i n : ℕ) → length (part s i n) ≡ min n (length s - i)
 unfolding part
-part-length s i n h = simp (length-take, length-drop) (omega arith)
+part-long s i n = simp (length-take, length-drop)
+
+pub part-length : (s : List ℕ) (i n : ℕ) → i + n ≤ length s → length (part s i n) ≡ n
+part-length s i n h = omega (arith, part-long s i n)
 
 pub part-at : (s : List ℕ) (i n k : ℕ) → k < n → getD (part s i n) k 0 ≡ getD s (i + k) 0
 unfolding part
 part-at s i n k h = rw (getD-take, getD-drop)
+
+-- what stands nowhere is zero
+pub part-past : (s : List ℕ) (i n k : ℕ) → n ≤ k → getD (part s i n) k 0 ≡ 0
+part-past s i n k h = List·getD-eq-default (part s i n) 0 (omega (arith, part-long s i n))
 
 -- the elements of a part are bytes where all are
 take-bytes : (n : ℕ) (s : List ℕ) → Bytes s → Bytes (take n s)
@@ -62,6 +69,11 @@ unfolding part
 part-mid a b c i n e f = ap (λ (l : List ℕ). take n l) (drop-at a (b ++ c) i e) ∙ take-at b c n f
 
 -- ---- zeros
+
+pub allZero-replicate : (n : ℕ) → allZero (replicate n 0) ≡ true
+unfolding allZero
+allZero-replicate zero = refl
+allZero-replicate (suc n) = allZero-replicate n
 
 pub zeros-of : (l : List ℕ) → allZero l ≡ true → l ≡ replicate (length l) 0
 unfolding allZero

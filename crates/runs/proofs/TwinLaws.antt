@@ -4,8 +4,9 @@ use mathlib.Core.Path.{_≡_, refl, sym, ap, _∙_, subst}
 use mathlib.Core.Bool.{true}
 use mathlib.Core.List.{List}
 use Prim.Native.Nat.{ℕ, zero, suc, _+_, _-_, min}
-use lib.ListN.{length, drop, length-take, length-drop}
+use lib.ListN.{length}
 use Rattle.octets.specs.Bytes.{Bytes, part}
+use Rattle.octets.proofs.PartLaws.{part-long}
 use Rattle.refusal.specs.House.{Answer, house, gives}
 use Rattle.store.specs.declared.Limits.{Limits}
 use Rattle.store.specs.declared.Edition.{Edition}
@@ -112,9 +113,7 @@ module _ (L : Limits) {ts : List Tag} {s s' : List ℕ} (v : Twins L ts s s') wh
   find-same peer t = rw (v .edition, v .edition', v .sound-is, v .sound-is', chosen-alike peer t (v .alike), length-alike (v .alike))
 
   part-size : (i n : ℕ) → length (part s i n) ≡ length (part s' i n)
-  unfolding part
-  part-size i n =
-      length-take n (drop i s) ∙ ap (λ (k : ℕ). min n k) (length-drop i s ∙ ap (λ (k : ℕ). k - i) (twins-differ .same-length) ∙ sym (length-drop i s')) ∙ sym (length-take n (drop i s'))
+  part-size i n = part-long s i n ∙ ap (λ (k : ℕ). min n (k - i)) (twins-differ .same-length) ∙ sym (part-long s' i n)
 
   keyOf-size : (a : Answer) → length (keyOf a s) ≡ length (keyOf a s')
   keyOf-size (gives zero) = refl

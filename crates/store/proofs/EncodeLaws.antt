@@ -13,7 +13,7 @@ use borrow.Author.Tests.{eq-eqb, eqb-true, le-leb}
 use Rattle.octets.specs.Bytes.{get16, get32, be16, be32, part, allBelow, allZero}
 use Rattle.octets.specs.Words.{numbers, words}
 use Rattle.octets.proofs.BoolLaws.{and-both, allBelow-all}
-use Rattle.octets.proofs.PartLaws.{part-mid}
+use Rattle.octets.proofs.PartLaws.{part-mid, allZero-replicate}
 use Rattle.octets.proofs.WordLaws.{get16-be16, get32-be32, numbers-words, length-words, words-append}
 use Rattle.store.specs.Layout.{recordAt, peersAt, total, Bounded}
 use Rattle.store.specs.Store.{Entry, header, keyRecord, keyRecords, peersOf, encode, entries, entriesFrom, entryAt, first, count, kmacAt, keyCount, peerCount, sumBefore, sumAt, sameKey, newKey, allOdd, headerOk, countsOk, sumsOk, uniqueOk, parityOk, unusedOk, sound}
@@ -93,11 +93,6 @@ group-keys-free h r z t = simp append-assoc
 
 group-peers-free : (h r z f y : List ℕ) → h ++ (r ++ (z ++ (f ++ y))) ≡ (((h ++ r) ++ z) ++ f) ++ (y ++ [])
 group-peers-free h r z f y = simp (append-assoc, append-nil)
-
-allZero-replicate : (n : ℕ) → allZero (replicate n 0) ≡ true
-unfolding allZero
-allZero-replicate zero = refl
-allZero-replicate (suc n) = allZero-replicate n
 
 not-both : (a b c d : ℕ) → (a ≡ b → c ≡ d → ⊥) → not (eqb a b && eqb c d) ≡ true
 not-both a b c d h = go (eqb a b) (eqb c d) refl refl
