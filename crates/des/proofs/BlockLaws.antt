@@ -80,9 +80,9 @@ pub length-f : (r k : List ℕ) → length (cipherFunction r k) ≡ 32
 unfolding cipherFunction p
 length-f r k = length-permute p _
 
-pub length-swap : (n : ℕ) (bs : List ℕ) → n ≤ length bs → length (swap n bs) ≡ length bs
+pub length-swap : (n : ℕ) (bs : List ℕ) → length (swap n bs) ≡ length bs
 unfolding swap
-length-swap n bs h = omega (arith, length-append (drop n bs) (take n bs), length-drop n bs, length-take n bs)
+length-swap n bs = omega (arith, length-append (drop n bs) (take n bs), length-drop n bs, length-take n bs)
 
 -- ---- the number that bits represent has these bits
 

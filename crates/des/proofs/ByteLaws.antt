@@ -2,7 +2,7 @@
 -- Assumes nothing.
 use mathlib.Core.Path.{_≡_, refl, sym, ap, ap₂, _∙_}
 use mathlib.Core.List.{List, [], _∷_, _++_, append-assoc, append-nil}
-use Prim.Native.Nat.{ℕ, zero, suc, _+_, _*_, _/_, _%_, _≤_, _<_}
+use Prim.Native.Nat.{ℕ, zero, suc, _+_, _*_, _/_, _%_, _^_, _≤_, _<_}
 use native.Mathlib.Nat.{mod-lt}
 use native.Mathlib.Numerals.{add-one}
 use native.Mathlib.Omega.{arith}
@@ -14,7 +14,7 @@ use Rattle.octets.proofs.PartLaws.{part-snoc}
 use Rattle.des.specs.Bits.{bits, value, bitsOfBytes, bytesOfBits}
 use Rattle.des.specs.Claims.{Block8}
 use Rattle.des.proofs.BitLaws.{length-bits, split-bits, join-bits, mod-bits, value-bits}
-use Rattle.des.proofs.BlockLaws.{Small, Block, small-nil, small-append, small-take, small-drop, small-bits, bits-value}
+use Rattle.des.proofs.BlockLaws.{Small, Block, small-nil, small-append, small-take, small-drop, small-bits, value-high, bits-value}
 
 length-bitsOfBytes : (b : List ℕ) → length (bitsOfBytes b) ≡ 8 * length b
 unfolding bitsOfBytes
@@ -53,6 +53,15 @@ bits-of-bytes (suc n) bs h s =
     (ap (λ (w : ℕ). bits w (value (take 8 bs))) (sym t8) ∙ bits-value (take 8 bs) (small-take 8 bs s))
     (bits-of-bytes n (drop 8 bs) d8 (small-drop 8 bs s))
     ∙ take-append-drop 8 bs
+
+pub byte-values : (n : ℕ) (bs : List ℕ) → length bs ≡ 8 * n → Small bs → Bytes (bytesOfBits n bs)
+unfolding bytesOfBits value
+byte-values zero bs h s i = lit< tt
+byte-values (suc n) bs h s zero =
+    let t8 : length (take 8 bs) ≡ 8 = omega (arith, length-take 8 bs) in
+    let q : value (take 8 bs) / 256 ≡ 0 = ap (λ (k : ℕ). value (take 8 bs) / 2 ^ k) (sym t8) ∙ value-high 0 (take 8 bs) (small-take 8 bs s) in
+    omega arith
+byte-values (suc n) bs h s (suc i) = byte-values n (drop 8 bs) (omega (arith, length-drop 8 bs)) (small-drop 8 bs s) i
 
 -- ---- a word that holds bytes
 

@@ -15,7 +15,7 @@ use Rattle.des.specs.Tables.{ip, ipInverse}
 use Rattle.des.specs.Des.{permute, cipherFunction, swap, subkey, round, rounds, cipher, encipherBits, decipherBits}
 use Rattle.des.specs.Words.{every}
 use Rattle.des.specs.Joined.{upFrom}
-use Rattle.des.proofs.TestLaws.{map-every}
+use Rattle.des.proofs.MapLaws.{getD-map, map-every}
 use Rattle.des.proofs.BlockLaws.{Small, Block, small-append, small-take, small-drop, small-xor, small-permute, small-swap, length-permute, length-xor, length-f, length-swap}
 use Rattle.des.proofs.KeyLaws.{cipher-by}
 
@@ -49,7 +49,7 @@ round-block k y h =
       small = small-append (drop 32 y) (xorBits (take 32 y) f) (small-drop 32 y (h .small)) (small-xor (take 32 y) f);
     }
 
-rounds-block : (ks : ℕ → List ℕ) (n : ℕ) (y : List ℕ) → Block 64 y → Block 64 (rounds ks n y)
+pub rounds-block : (ks : ℕ → List ℕ) (n : ℕ) (y : List ℕ) → Block 64 y → Block 64 (rounds ks n y)
 unfolding rounds
 rounds-block ks zero y h = h
 rounds-block ks (suc n) y h = round-block (ks n) (rounds ks n y) (rounds-block ks n y h)
@@ -101,11 +101,6 @@ undo-rounds ks y h (suc n) l =
 
 -- ---- IP and IP⁻¹
 
-pub getD-map : (f : ℕ → ℕ) (l : List ℕ) (n : ℕ) → n < length l → getD (map f l) n 0 ≡ f (getD l n 0)
-getD-map f [] n h = absurd (not-suc-le-zero h)
-getD-map f (x ∷ l) zero h = refl
-getD-map f (x ∷ l) (suc n) h = getD-map f l n (le-of-suc-le-suc h)
-
 -- one table after another
 pub compose : (s t x : List ℕ) → every (λ (k : ℕ). ltb (k - 1) (length t)) s ≡ true → permute s (permute t x) ≡ permute (map (λ (k : ℕ). getD t (k - 1) 0) s) x
 unfolding permute
@@ -136,7 +131,7 @@ pub before-ip : (x : List ℕ) → length x ≡ 64 → permute ip (permute ipInv
 unfolding ip ipInverse
 before-ip x h = compose ip ipInverse x refl ∙ up-is 64 x h
 
-ip-block : (x : List ℕ) → Block 64 x → Block 64 (permute ip x)
+pub ip-block : (x : List ℕ) → Block 64 x → Block 64 (permute ip x)
 unfolding ip
 ip-block x h = record { long = length-permute ip x; small = small-permute ip x (h .small) }
 
@@ -152,7 +147,7 @@ cipher-back ks bs h =
     let b : Block 64 y = ip-block bs h in
     let z = rounds ks 16 y in
     let zl : length z ≡ 64 = rounds-block ks 16 y b .long in
-    let sl : length (swap 32 z) ≡ 64 = length-swap 32 z (omega arith) ∙ zl in
+    let sl : length (swap 32 z) ≡ 64 = length-swap 32 z ∙ zl in
     ap (λ (l : List ℕ). permute ipInverse (swap 32 (rounds (λ (n : ℕ). ks (15 - n)) 16 l))) (before-ip (swap 32 z) sl)
     ∙ ap (λ (l : List ℕ). permute ipInverse (swap 32 l)) (undo-rounds ks y b 16 (lit≤ tt) ∙ ap (swap 32) (rounds-none ks y))
     ∙ ap (permute ipInverse) (swap-twice y (b .long))

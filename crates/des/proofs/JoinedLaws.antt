@@ -19,7 +19,7 @@ use Rattle.des.specs.Words.{Holds}
 use Rattle.des.specs.Joined.{upFrom, zeros, placed, moved, joinedEntry, joined, pc2Entry, pc2Groups}
 use Rattle.des.proofs.BitLaws.{length-bits}
 use Rattle.des.proofs.BlockLaws.{Small, small-nil, small-cons, small-append, small-permute, small-bits, length-permute, value-high, bits-value}
-use Rattle.des.proofs.CipherLaws.{getD-map}
+use Rattle.des.proofs.MapLaws.{getD-map}
 use Rattle.des.proofs.LinearLaws.{permute-xor}
 use Rattle.des.proofs.WordLaws.{recast, xored, masked, part-bits}
 

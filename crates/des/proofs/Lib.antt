@@ -1,4 +1,4 @@
-pub mod TestLaws
+pub mod MapLaws
 pub mod BitLaws
 pub mod BlockLaws
 pub mod ByteLaws
@@ -7,6 +7,7 @@ pub mod KeyLaws
 pub mod CipherLaws
 pub mod ParityLaws
 pub mod LinearLaws
+pub mod ComplementLaws
 pub mod JoinedLaws
 pub mod InsideLaws
 pub mod Theorems

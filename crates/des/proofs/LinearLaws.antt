@@ -2,7 +2,7 @@
 -- Assumes nothing.
 use mathlib.Core.Path.{_≡_, refl, sym, ap, ap₂, _∙_, subst, subst⁻¹}
 use mathlib.Core.Bool.{Bool, true, _&&_}
-use mathlib.Core.List.{List, [], _∷_, _++_, map-append}
+use mathlib.Core.List.{List, [], _∷_}
 use Prim.Native.Nat.{ℕ, zero, suc, _+_, _-_, _*_, _/_, _%_, _^_, _≤_, _<_, min}
 use native.Mathlib.Nat.{mod-lt, add-zero, zero-mul, one-mul}
 use native.Mathlib.Omega.{arith}
@@ -12,14 +12,15 @@ use lib.Dec.{ltb, lit≤}
 use borrow.Author.Tests.{ltb-true}
 use lib.Pow.{pow-pos, shr-lt, split}
 use lib.Bits.{bitAnd, bitXor, and-step, and-shr, xor-shr, xor-mod, xor-block, xor-comm, xor-shifted, xor-add-and}
-use lib.ListN.{length, getD, take, drop}
+use lib.ListN.{length, getD}
 use Rattle.octets.specs.Bytes.{same, allBelow}
 use Rattle.octets.proofs.BoolLaws.{and-left, and-right, allBelow-at, same-true}
 use Rattle.des.specs.Bits.{bits, xorBits}
-use Rattle.des.specs.Des.{permute, swap, shiftBoth}
+use Rattle.des.specs.Des.{permute, shiftBoth}
 use Rattle.des.specs.Words.{Holds}
 use Rattle.des.specs.Networks.{exchangeBits, spreadParts, gatherParts, shiftParts}
 use Rattle.des.specs.Joined.{upFrom}
+use Rattle.des.proofs.MapLaws.{shift-map}
 use Rattle.des.proofs.BitLaws.{length-bits, xor-digit, xor-bits}
 use Rattle.des.proofs.WordLaws.{recast, xored}
 use Rattle.des.proofs.CipherLaws.{up-is}
@@ -165,25 +166,9 @@ module _ (v w : ℕ) (t : List ℕ) {f : ℕ → ℕ} (l : Linear f) (test : per
 
 -- ---- left shifts
 
-take-permute : (n : ℕ) (t bs : List ℕ) → permute (take n t) bs ≡ take n (permute t bs)
-unfolding permute
-take-permute zero t bs = refl
-take-permute (suc n) [] bs = refl
-take-permute (suc n) (k ∷ t) bs = ap (λ (l : List ℕ). getD bs (k - 1) 0 ∷ l) (take-permute n t bs)
-
-drop-permute : (n : ℕ) (t bs : List ℕ) → permute (drop n t) bs ≡ drop n (permute t bs)
-unfolding permute
-drop-permute zero t bs = refl
-drop-permute (suc n) [] bs = refl
-drop-permute (suc n) (k ∷ t) bs = drop-permute n t bs
-
-append-permute : (s t bs : List ℕ) → permute (s ++ t) bs ≡ permute s bs ++ permute t bs
-unfolding permute
-append-permute s t bs = map-append (λ (k : ℕ). getD bs (k - 1) 0) s t
-
 shift-permute : (n : ℕ) (t bs : List ℕ) → permute (shiftBoth n t) bs ≡ shiftBoth n (permute t bs)
-unfolding shiftBoth swap
-shift-permute n t bs = simp (append-permute, take-permute, drop-permute)
+unfolding permute
+shift-permute n t bs = sym (shift-map (λ (k : ℕ). getD bs (k - 1) 0) n t)
 
 pub shift-word : (n high low : ℕ) → permutesPowers 56 56 (shiftBoth n (upFrom 1 56)) (shiftParts n high low) ≡ true → (cd : ℕ) {r : ℕ} → cd < 2 ^ 64 → r ≡ shiftParts n high low cd
     → Holds 56 r (shiftBoth n (bits 56 cd))

@@ -15,7 +15,7 @@ use Rattle.des.specs.Bits.{bits, bitsOfBytes}
 use Rattle.des.specs.Tables.{pc1, pc2, shifts}
 use Rattle.des.specs.Des.{permute, shiftBoth, shifted, subkey, encipherBits, decipherBits}
 use Rattle.des.specs.Claims.{SameButParity}
-use Rattle.des.proofs.TestLaws.{map-every}
+use Rattle.des.proofs.MapLaws.{map-every}
 use Rattle.des.proofs.BitLaws.{length-bits, split-bits}
 use Rattle.des.proofs.KeyLaws.{cipher-by}
 

@@ -1,6 +1,6 @@
 -- The claims of specs/Claims.antt.
 -- Assumes nothing.
-use mathlib.Core.Path.{_≡_, refl, sym, ap, _∙_}
+use mathlib.Core.Path.{_≡_, refl, sym, ap, ap₂, _∙_}
 use mathlib.Core.Bool.{Bool, true, _&&_}
 use mathlib.Core.List.{List}
 use Prim.Native.Nat.{ℕ}
@@ -14,13 +14,14 @@ use Rattle.des.specs.Tables.{p, sboxes}
 use Rattle.des.specs.Des.{permute, select, encipherBits, decipherBits, desEncipher, desDecipher}
 use Rattle.des.specs.Networks.{middle}
 use Rattle.des.specs.Joined.{placed, moved}
-use Rattle.des.specs.Claims.{boxRow, times, RowsArePermutations, Inverses, Block8, ParityFree, JoinedEntries}
+use Rattle.des.specs.Claims.{boxRow, times, RowsArePermutations, Inverses, Block8, ParityFree, complement, Complements, JoinedEntries}
 use Rattle.des.proofs.BlockLaws.{Block, length-permute}
 use Rattle.des.proofs.JoinedLaws.{length-joined, joined-at}
 use Rattle.des.proofs.InsideLaws.{middle-of}
 use Rattle.des.proofs.ByteLaws.{block-of-bytes, bytes-of-bits, bits-of-bytes}
 use Rattle.des.proofs.CipherLaws.{cipher-block, decipher-back, encipher-back}
 use Rattle.des.proofs.ParityLaws.{same-encipher, same-decipher, same-used}
+use Rattle.des.proofs.ComplementLaws.{complementBits, encipher-complement, decipher-complement, bits-complement, bytes-complement}
 
 -- ---- the rows of the S-boxes: one test, computed over the table, and what it says of each row
 
@@ -78,6 +79,26 @@ parity-free =
     record {
       enciphers = λ a b block e. ap (bytesOfBits 8) (same-encipher (bitsOfBytes a) (bitsOfBytes b) (bitsOfBytes block) (same-used a b e));
       deciphers = λ a b block e. ap (bytesOfBits 8) (same-decipher (bitsOfBytes a) (bitsOfBytes b) (bitsOfBytes block) (same-used a b e));
+    }
+
+-- ---- complements
+
+-- what holds of 64 bits holds of eight bytes
+complemented : (f : List ℕ → List ℕ → List ℕ) → ((k : List ℕ) → Block 64 k → (b : List ℕ) → Block 64 b → f (complementBits k) (complementBits b) ≡ complementBits (f k b))
+    → ((k b : List ℕ) → Block 64 b → Block 64 (f k b)) → (key block : List ℕ) → Block8 key → Block8 block
+    → bytesOfBits 8 (f (bitsOfBytes (complement key)) (bitsOfBytes (complement block))) ≡ complement (bytesOfBits 8 (f (bitsOfBytes key) (bitsOfBytes block)))
+complemented f law keeps key block hk hb =
+    let k = bitsOfBytes key in
+    let b = bitsOfBytes block in
+    let hb64 : Block 64 b = block-of-bytes block hb in
+    ap (bytesOfBits 8) (ap₂ f (bits-complement key (hk .bytes)) (bits-complement block (hb .bytes)) ∙ law k (block-of-bytes key hk) b hb64) ∙ bytes-complement 8 (f k b) (keeps k b hb64)
+
+pub complements : Complements
+unfolding desEncipher desDecipher encipherBits decipherBits
+complements =
+    record {
+      enciphers = complemented encipherBits encipher-complement (λ k bs b. cipher-block _ bs b);
+      deciphers = complemented decipherBits decipher-complement (λ k bs b. cipher-block _ bs b);
     }
 
 -- ---- the joined table

@@ -2,8 +2,8 @@
 -- Assumes nothing.
 use mathlib.Core.Path.{_≡_}
 use mathlib.Core.Bool.{Bool, true, false}
-use mathlib.Core.List.{List, [], _∷_}
-use Prim.Native.Nat.{ℕ, suc, _+_, _*_, _/_, _^_, _<_}
+use mathlib.Core.List.{List, [], _∷_, map}
+use Prim.Native.Nat.{ℕ, suc, _+_, _-_, _*_, _/_, _^_, _<_}
 use lib.Dec.{eqb}
 use lib.ListN.{length, getD, take, drop}
 use Rattle.octets.specs.Bytes.{Bytes}
@@ -57,6 +57,17 @@ pub record SameButParity (a b : List ℕ) : Type 0 where
 pub record ParityFree : Type 0 where
   pub enciphers : (a b block : List ℕ) → SameButParity a b → desEncipher a block ≡ desEncipher b block
   pub deciphers : (a b block : List ℕ) → SameButParity a b → desDecipher a block ≡ desDecipher b block
+
+-- ---- complements
+
+-- every bit of every byte changed: 255 - b
+unfoldable pub complement : List ℕ → List ℕ
+complement bs = map (λ (b : ℕ). 255 - b) bs
+
+-- with every bit of the key and every bit of the block changed, every bit of the result is changed
+pub record Complements : Type 0 where
+  pub enciphers : (key block : List ℕ) → Block8 key → Block8 block → desEncipher (complement key) (complement block) ≡ complement (desEncipher key block)
+  pub deciphers : (key block : List ℕ) → Block8 key → Block8 block → desDecipher (complement key) (complement block) ≡ complement (desDecipher key block)
 
 -- ---- the joined table
 
