@@ -1,7 +1,9 @@
+pub mod PairLaws
 pub mod StringLaws
 pub mod MacLaws
 pub mod KeyLaws
 pub mod UnitLaws
 pub mod AnswerLaws
+pub mod ParityLaws
 pub mod Examples
 pub mod Theorems

@@ -21,7 +21,8 @@ use Rattle.des.specs.Inside.{Entered, Leaves, Adds, EnciphersInside, DeciphersI
 use Rattle.des.proofs.ByteLaws.{bytes-bits, length-bytesOfBits}
 use Rattle.authentication.specs.Mac.{block, chain, finish, cbcMac, macString, mac}
 use Rattle.authentication.specs.Unit.{macOf}
-use Rattle.authentication.proofs.StringLaws.{length-string, block-number}
+use Rattle.authentication.proofs.PairLaws.{length-string}
+use Rattle.authentication.proofs.StringLaws.{block-number}
 
 -- ---- the chain, of blocks inside DES
 

@@ -1,10 +1,10 @@
--- The string of the MAC: its bytes, its length, and its blocks.
+-- The string of the MAC as the code makes it: byte by byte, and its blocks as numbers.
 -- Assumes nothing.
 use mathlib.Core.Path.{_≡_, refl, sym, ap, _∙_}
 use mathlib.Core.List.{List, [], _∷_, _++_}
 use Prim.Native.Nat.{ℕ, zero, suc, _+_, _-_, _*_, _/_, _%_, _≤_, _<_}
 use native.Mathlib.Omega.{arith}
-use lib.ListN.{length, getD, replicate, length-append, length-replicate, List·getD-append}
+use lib.ListN.{length, getD, replicate, length-append, List·getD-append}
 use lib.Seq.{getD-append-add}
 use Rattle.octets.specs.Bytes.{number}
 use Rattle.des.specs.Bits.{bits}
@@ -38,20 +38,6 @@ module _ (d m : List ℕ) (three : length d ≡ 3) where
   byte-low i e =
       let l : (length m + 3) % 256 ≡ length (d ++ m) % 256 = omega (arith, length-append d m) in
       l ∙ ap (λ (n : ℕ). getD (unpadded d m) n 0) (sym e)
-
-  -- ---- its length, and with the padding
-
-  length-unpadded : length (unpadded d m) ≡ length m + 5
-  unfolding unpadded
-  length-unpadded = omega (arith, length-append d m)
-
-  pub length-string : length (macString d m) ≡ 8 * ((length m + 12) / 8)
-  unfolding macString padded
-  length-string =
-      let n = length (unpadded d m) in
-      let e : length (unpadded d m ++ replicate ((8 - n % 8) % 8) 0) ≡ n + (8 - n % 8) % 8 =
-      length-append (unpadded d m) (replicate ((8 - n % 8) % 8) 0) ∙ ap (λ (k : ℕ). n + k) (length-replicate ((8 - n % 8) % 8) 0) in
-      e ∙ omega (arith, length-unpadded)
 
 -- ---- the padding is zero, as what stands nowhere is
 

@@ -8,22 +8,54 @@ use native.Mathlib.Nat.{not-suc-le-zero, le-of-suc-le-suc}
 use native.Mathlib.Omega.{arith}
 use lib.Count.{ones}
 use lib.Dec.{eqb, leb}
-use lib.ListN.{length, getD, take, drop, length-append, take-append-drop}
+use lib.ListN.{length, getD, take, drop, replicate, length-append, take-append-drop}
 use borrow.Author.Tests.{eqb-true, leb-true, le-leb}
 use Rattle.octets.specs.Bytes.{part, same}
 use Rattle.octets.proofs.BoolLaws.{and-both, and-left, and-right, same-refl, same-true}
 use Rattle.octets.proofs.SpliceLaws.{splice-front}
 use Rattle.des.proofs.ByteLaws.{length-bytesOfBits}
 use Rattle.des.specs.Bits.{bytesOfBits}
-use Rattle.refusal.specs.House.{Answer, gives}
+use Rattle.refusal.specs.House.{Answer, gives, unlessRefused}
 use Rattle.refusal.proofs.Laws.{asks-gives, gives-number}
 use Rattle.authentication.specs.Mac.{mac}
-use Rattle.authentication.specs.Keys.{odd, ks1, ks2, ks3, sessionKeys}
+use Rattle.authentication.specs.Keys.{odd, ks1, ks2, ks3, sessionKeys, derived}
 use Rattle.authentication.specs.Unit.{header, message, unitOf, between, built, buffer, body, macOf, rightHeader, rightContents, checked, dataOf}
-use Rattle.authentication.specs.Claims.{Accepts, IsBuilt, AcceptedExactlyBuilt, WrittenAccepted, RefusedBuildWritesNothing, OddParity, OneAnswer}
+use Rattle.authentication.specs.Claims.{TellsPair, StringTells, OnePair, ParityFreeMac, ParityFreeCalls, Accepts, IsBuilt, AcceptedExactlyBuilt, WrittenAccepted, RefusedBuildWritesNothing, OddParity, OneAnswer}
+use Rattle.authentication.proofs.PairLaws.{string-tells-pair, one-told}
 use Rattle.authentication.proofs.KeyLaws.{odd-ones, odd-high}
 use Rattle.authentication.proofs.UnitLaws.{between-true, header-only, header-right, take-first, length-unit, body-unit, mac-unit, data-unit, first-unit}
 use Rattle.authentication.proofs.AnswerLaws.{Passed, passed, all-right, one-derived, one-built, one-checked}
+use Rattle.authentication.proofs.ParityLaws.{set-parity, same-mac, same-keys, same-unit, same-built, same-checked, same-derived}
+
+-- ---- the string of the MAC
+
+pub string-tells : StringTells
+string-tells = record { string = string-tells-pair }
+
+pub one-pair : OnePair
+one-pair =
+    record {
+      pair = λ d e m n hd he p. one-told (string-tells-pair d m hd) (subst (λ (s : List ℕ). TellsPair e n s) (sym p) (string-tells-pair e n he));
+    }
+
+-- ---- parity bits of a key
+
+pub parity-free-mac : ParityFreeMac
+parity-free-mac = record { macs = λ a b destination m e. same-mac a b e destination m; set = λ key destination m. same-mac (map odd key) key (set-parity key) destination m }
+
+pub parity-free-calls : ParityFreeCalls
+parity-free-calls =
+    record {
+      builds = λ a b destination direction user out e after after′ r r′ p q.
+          let k : built a user out ≡ built b user out = same-built a b e user out in
+          let u : unitOf a destination direction user ≡ unitOf b destination direction user = same-unit a b e destination direction user in
+          (one-built r r′ (p .answer ∙ k ∙ sym (q .answer)), p .written ∙ ap₂ (λ (k : Answer) (u : List ℕ). buffer k u out) k u ∙ sym (q .written));
+      checks = λ a b unit destination direction e r r′ p q. one-checked r r′ (p ∙ same-checked a b e unit destination direction ∙ sym q);
+      hands-out = λ a b unit destination direction e. ap (λ (k : Answer). dataOf k unit) (same-checked a b e unit destination direction);
+      derives = λ a b ra rb e r r′ key key′ p q.
+          let k : derived a ≡ derived b = same-derived a b e in
+          (one-derived r r′ (p .said ∙ k ∙ sym (q .said)), p .made ∙ ap₂ (λ (k : Answer) (t : List ℕ). unlessRefused k t (replicate 24 0)) k (same-keys a b e ra rb) ∙ sym (q .made));
+    }
 
 -- ---- what is accepted is built
 

@@ -10,7 +10,7 @@ use Rattle.des.specs.Bits.{bits}
 use Rattle.des.specs.declared.Halves.{Halves}
 use Rattle.des.specs.Inside.{Entered}
 use Rattle.authentication.specs.Mac.{block, chain, macString}
-use Rattle.authentication.proofs.StringLaws.{length-string}
+use Rattle.authentication.proofs.PairLaws.{length-string}
 use Rattle.authentication.proofs.MacLaws.{chain-start, block-entered, chain-step}
 use borrow.Author.Needs.{needs}
 use Rattle.authentication.proofs.cbc.chain_halves.Statement.{statement}
