@@ -233,4 +233,61 @@ fn parity_of_the_key_has_no_influence_on_a_unit() {
     let unit = built(&[1, 2, 3], false);
     let other = key().map(|octet| octet ^ 1);
     assert_eq!(check(&unit, &other, &destination(), false), Ok(3));
+    let mut out = [0; 1032];
+    assert_eq!(
+        build(&other, &destination(), false, &[1, 2, 3], &mut out),
+        Ok(12)
+    );
+    assert_eq!(out[..12], unit);
+}
+
+#[test]
+fn parity_of_the_kmac_has_no_influence_on_session_keys() {
+    let usual = session_keys(&key(), &pattern(3), &pattern(4));
+    for at in 0..24 {
+        let mut other = key();
+        other[at] ^= 1;
+        assert_eq!(session_keys(&other, &pattern(3), &pattern(4)), usual);
+        other[at] ^= 2;
+        assert_ne!(session_keys(&other, &pattern(3), &pattern(4)), usual);
+    }
+}
+
+/// The length tells a unit from the same unit with zeros behind it, which padding alone would not.
+#[test]
+fn zeros_behind_a_message_change_its_mac() {
+    for length in 1..40 {
+        let message = vec![0x5a; length];
+        let usual = mac(&key(), &destination(), &message);
+        for zeros in 1..=8 {
+            let longer = [&message[..], &vec![0; zeros]].concat();
+            assert_ne!(mac(&key(), &destination(), &longer), usual);
+        }
+    }
+}
+
+/// A MAC has 64 bits, so distinct strings can share one: whoever has the key makes such a pair
+/// at once. The second block of the string is another, and the third makes up for it.
+#[test]
+fn two_units_of_one_mac() {
+    let [k1, ..] = ciphers(&key());
+    let user: [u8; 18] = pattern(40);
+    let mut other = user;
+    other[2] ^= 1;
+    let after_two_blocks = |user: &[u8; 18]| {
+        let string = [&[0, 22], &destination()[..], &[0x0a], &user[..10]].concat();
+        let second = string[8..]
+            .iter()
+            .zip(k1.encipher(string[..8].try_into().unwrap()));
+        let sum: Vec<u8> = second.map(|(a, b)| a ^ b).collect();
+        k1.encipher(sum[..].try_into().unwrap())
+    };
+    let (one, two) = (after_two_blocks(&user), after_two_blocks(&other));
+    for at in 0..8 {
+        other[10 + at] ^= one[at] ^ two[at];
+    }
+    let (unit, alike) = (built(&user, false), built(&other, false));
+    assert_ne!(unit[..19], alike[..19]);
+    assert_eq!(unit[19..], alike[19..]);
+    assert_eq!(checked(&alike, false), Ok(18));
 }

@@ -75,11 +75,23 @@ fn every_other_key_bit_has_influence() {
 
 #[test]
 fn complement_of_key_and_block_gives_the_complement() {
-    let key: [u8; 8] = pattern(77);
-    let block: [u8; 8] = pattern(12);
-    let complement = Des::new(&key.map(|byte| !byte)).encipher(&block.map(|byte| !byte));
-    assert_eq!(
-        complement,
-        Des::new(&key).encipher(&block).map(|byte| !byte)
-    );
+    for seed in 0..64 {
+        let key: [u8; 8] = pattern(77 + seed);
+        let block: [u8; 8] = pattern(12 + 5 * seed);
+        let usual = Des::new(&key);
+        let complement = Des::new(&key.map(|octet| !octet));
+        let other = block.map(|octet| !octet);
+        assert_eq!(
+            complement.encipher(&other),
+            usual.encipher(&block).map(|octet| !octet)
+        );
+        assert_eq!(
+            complement.decipher(&other),
+            usual.decipher(&block).map(|octet| !octet)
+        );
+        assert_ne!(
+            usual.encipher(&other),
+            usual.encipher(&block).map(|octet| !octet)
+        );
+    }
 }
