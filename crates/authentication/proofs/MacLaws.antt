@@ -16,8 +16,8 @@ use Rattle.octets.proofs.NumberLaws.{part-bytes, bytes-one}
 use Rattle.des.specs.Bits.{bits, xorBits, bytesOfBits}
 use Rattle.des.specs.Des.{decipherBits}
 use Rattle.des.specs.Words.{Keys}
-use Rattle.des.specs.declared.Halves.{Halves}
-use Rattle.des.specs.Inside.{Entered, Leaves, Adds, EnciphersInside, DeciphersInside}
+use Rattle.fast_des.specs.declared.Halves.{Halves}
+use Rattle.fast_des.specs.Inside.{Entered, Leaves, Adds, EnciphersInside, DeciphersInside}
 use Rattle.des.proofs.ByteLaws.{bytes-bits, length-bytesOfBits}
 use Rattle.authentication.specs.Mac.{block, chain, finish, cbcMac, macString, mac}
 use Rattle.authentication.specs.Unit.{macOf}

@@ -4,10 +4,10 @@ ghost use mathlib.Core.List.{_++_, map};
 ghost use lib.ListN.{length, take, drop};
 ghost use Rattle.octets.specs.Bytes.{bytes};
 ghost use Rattle.des.specs.Bits.{bits};
-ghost use Rattle.des.specs.Joined.{joined};
+ghost use Rattle.fast_des.specs.Joined.{joined};
 ghost use Rattle.authentication.specs.Keys.{odd as oddOf, sessionKeys, Triples, Drawn};
 use crate::cbc::schedule_at;
-use des::Three;
+use fast_des::Three;
 
 // The left halves of two words, and the right halves.
 fn lefts(a: u64, b: u64) -> u64
@@ -34,19 +34,19 @@ fn triples(k1: [u64; 16], k2: [u64; 16], k3: [u64; 16], x: u64, y: u64, table: &
     requires { ⌜ now table ≡ joined ⌝ }
     ensures { λ r. ⌜ (Triples k1 k2 k3 x (r .one)) × ((Triples k1 k2 k3 y (r .two)) × (Triples k3 k2 k1 x (r .three))) ⌝ }
 {
-    let left = des::enter(x);
+    let left = fast_des::enter(x);
     let s = Three {
         one: left,
-        two: des::enter(y),
+        two: fast_des::enter(y),
         three: left,
     };
-    let a = des::encipher_three(s, k1, k3, table);
-    let b = des::decipher_three(a, k2, table);
-    let c = des::encipher_three(b, k3, k1, table);
+    let a = fast_des::encipher_three(s, k1, k3, table);
+    let b = fast_des::decipher_three(a, k2, table);
+    let c = fast_des::encipher_three(b, k3, k1, table);
     Words {
-        one: des::leave(c.one),
-        two: des::leave(c.two),
-        three: des::leave(c.three),
+        one: fast_des::leave(c.one),
+        two: fast_des::leave(c.two),
+        three: fast_des::leave(c.three),
     }
 }
 
@@ -55,16 +55,16 @@ fn draw(kmac: &[u8], x: u64, y: u64) -> Words
     requires { ⌜ length (now kmac) ≡ 24 ⌝ }
     ensures { λ r. ⌜ Drawn (now (kmac .entry)) x y (r .one) (r .two) (r .three) ⌝ }
 {
-    let groups = des::pc2_table();
+    let groups = fast_des::groups_table();
     let k1 = schedule_at(kmac, 0, &groups);
     let k2 = schedule_at(kmac, 1, &groups);
     let k3 = schedule_at(kmac, 2, &groups);
-    let table = des::joined_table();
+    let table = fast_des::joined_table();
     triples(k1, k2, k3, x, y, &table)
 }
 
 // The bytes of three words.
-fn join(a: u64, b: u64, c: u64) -> [u8; 24]
+pub fn join(a: u64, b: u64, c: u64) -> [u8; 24]
     ensures { λ r. ⌜ r ≡ bytes 8 a ++ (bytes 8 b ++ bytes 8 c) ⌝ }
 {
     let mut d = [0u8; 24];

@@ -16,7 +16,7 @@ use crate::unit::put_unit;
 use refusal::Refusal;
 
 mod cbc;
-mod keys;
+pub mod keys;
 mod string;
 mod unit;
 

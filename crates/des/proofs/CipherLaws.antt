@@ -13,8 +13,7 @@ use lib.Seq.{take-at, drop-at, drop-cons}
 use Rattle.des.specs.Bits.{xorBits}
 use Rattle.des.specs.Tables.{ip, ipInverse}
 use Rattle.des.specs.Des.{permute, cipherFunction, swap, subkey, round, rounds, cipher, encipherBits, decipherBits}
-use Rattle.des.specs.Words.{every}
-use Rattle.des.specs.Joined.{upFrom}
+use Rattle.des.specs.Words.{every, upFrom}
 use Rattle.des.proofs.MapLaws.{getD-map, map-every}
 use Rattle.des.proofs.BlockLaws.{Small, Block, small-append, small-take, small-drop, small-xor, small-permute, small-swap, length-permute, length-xor, length-f, length-swap}
 use Rattle.des.proofs.KeyLaws.{cipher-by}

@@ -3,15 +3,18 @@
 use mathlib.Core.Path.{_≡_, refl, ap, ap₂, _∙_}
 use mathlib.Core.Bool.{Bool, true, false}
 use mathlib.Core.List.{List}
-use Prim.Native.Nat.{ℕ, zero, suc, _+_, _-_, _<_}
+use Prim.Native.Nat.{ℕ, zero, suc, _+_, _-_, _≤_, _<_}
 use native.Mathlib.Omega.{arith}
 use borrow.Author.Count.{below-more}
+use borrow.Author.Tests.{leb-true}
+use lib.Dec.{leb}
 use lib.ListN.{length, getD, set}
 use lib.Seq.{getD-set-same, getD-set-other}
 use Rattle.des.specs.Bits.{bits}
 use Rattle.des.specs.Tables.{ip, ipInverse, shifts}
-use Rattle.des.specs.Words.{turned}
-use Rattle.des.specs.Des.{permute, swap, shiftBoth, shifted, subkey, round, rounds, cipher}
+use Rattle.des.specs.Words.{Keys, turned, keysOf}
+use Rattle.des.specs.Des.{permute, swap, shiftBoth, shifted, subkey, round, rounds, cipher, encipherBits, decipherBits}
+use Rattle.des.proofs.MapLaws.{every-at}
 
 rounds-by : (ks js : ℕ → List ℕ) (n : ℕ) (l : List ℕ) → ((m : ℕ) → m < n → ks m ≡ js m) → rounds ks n l ≡ rounds js n l
 unfolding rounds
@@ -30,6 +33,10 @@ pub shifted-step : (key : List ℕ) (n cd d : ℕ) {s : ℕ} → s ≡ getD shif
 unfolding shifted
 shifted-step key n cd d hs h e = e ∙ ap₂ shiftBoth hs h
 
+pub few : (n : ℕ) → n < 16 → getD shifts n 0 ≤ 28
+unfolding shifts
+few n h = leb-true (getD shifts n 0) 28 (every-at (λ (x : ℕ). leb x 28) shifts refl n h)
+
 -- the place of a key, whatever the order
 pub turned-below : (back : Bool) (n at : ℕ) → n < 16 → at ≡ turned back n → at < 16
 turned-below true n at h e = omega arith
@@ -39,3 +46,12 @@ turned-below false n at h e = omega arith
 pub cipher-by : (ks js : ℕ → List ℕ) (x : List ℕ) → ((m : ℕ) → m < 16 → ks m ≡ js m) → cipher ks x ≡ cipher js x
 unfolding cipher
 cipher-by ks js x h = ap (λ (l : List ℕ). permute ipInverse (swap 32 l)) (rounds-by ks js 16 (permute ip x) h)
+
+-- with the sixteen keys of a key
+pub enciphers : (key ks bs : List ℕ) → Keys key ks → cipher (keysOf ks false) bs ≡ encipherBits key bs
+unfolding encipherBits
+enciphers key ks bs h = cipher-by (keysOf ks false) (λ (n : ℕ). subkey key n) bs (λ m l. h .each m l)
+
+pub deciphers : (key ks bs : List ℕ) → Keys key ks → cipher (keysOf ks true) bs ≡ decipherBits key bs
+unfolding decipherBits
+deciphers key ks bs h = cipher-by (keysOf ks true) (λ (n : ℕ). subkey key (15 - n)) bs (λ m l. h .each (15 - m) (omega arith))

@@ -6,9 +6,7 @@ pub mod WordLaws
 pub mod KeyLaws
 pub mod CipherLaws
 pub mod ParityLaws
-pub mod LinearLaws
 pub mod ComplementLaws
-pub mod JoinedLaws
-pub mod InsideLaws
+pub mod TableLaws
 pub mod Theorems
 pub mod Examples

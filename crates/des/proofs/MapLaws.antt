@@ -1,4 +1,4 @@
--- A function at each element of a list: at one element, of parts and shifts, and where a test over the list says that two functions agree.
+-- A function or a test at each element of a list: at one element, of parts and shifts, and where a test over the list says that two functions agree.
 -- Assumes nothing.
 use mathlib.Core.Path.{_≡_, refl, ap, ap₂}
 use mathlib.Core.Bool.{Bool, true}
@@ -32,6 +32,12 @@ swap-map f n l = simp (take-map, drop-map, map-append)
 pub shift-map : (f : ℕ → ℕ) (n : ℕ) (l : List ℕ) → shiftBoth n (map f l) ≡ map f (shiftBoth n l)
 unfolding shiftBoth
 shift-map f n l = simp (take-map, drop-map, swap-map, map-append)
+
+-- what a test over a whole list says of each element
+pub every-at : (p : ℕ → Bool) (xs : List ℕ) → every p xs ≡ true → (i : ℕ) → i < length xs → p (getD xs i 0) ≡ true
+every-at p [] t i h = absurd (not-suc-le-zero h)
+every-at p (x ∷ xs) t zero h = and-left (p x) (every p xs) t
+every-at p (x ∷ xs) t (suc i) h = every-at p xs (and-right (p x) (every p xs) t) i (le-of-suc-le-suc h)
 
 -- two functions that agree at each entry that passes the test
 pub map-every : (p : ℕ → Bool) (f g : ℕ → ℕ) → ((k : ℕ) → p k ≡ true → f k ≡ g k) → (xs : List ℕ) → every p xs ≡ true → map f xs ≡ map g xs

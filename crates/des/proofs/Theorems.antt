@@ -9,15 +9,11 @@ use borrow.Author.Tests.{eqb-true}
 use lib.ListN.{length}
 use Rattle.octets.specs.Bytes.{allBelow}
 use Rattle.octets.proofs.BoolLaws.{and-left, and-right, allBelow-at}
-use Rattle.des.specs.Bits.{bits, bitsOfBytes, bytesOfBits}
-use Rattle.des.specs.Tables.{p, sboxes}
-use Rattle.des.specs.Des.{permute, select, encipherBits, decipherBits, desEncipher, desDecipher}
-use Rattle.des.specs.Networks.{middle}
-use Rattle.des.specs.Joined.{placed, moved}
-use Rattle.des.specs.Claims.{boxRow, times, RowsArePermutations, Inverses, Block8, ParityFree, complement, Complements, JoinedEntries}
-use Rattle.des.proofs.BlockLaws.{Block, length-permute}
-use Rattle.des.proofs.JoinedLaws.{length-joined, joined-at}
-use Rattle.des.proofs.InsideLaws.{middle-of}
+use Rattle.des.specs.Bits.{bitsOfBytes, bytesOfBits}
+use Rattle.des.specs.Tables.{sboxes}
+use Rattle.des.specs.Des.{encipherBits, decipherBits, desEncipher, desDecipher}
+use Rattle.des.specs.Claims.{boxRow, times, RowsArePermutations, Inverses, Block8, ParityFree, complement, Complements}
+use Rattle.des.proofs.BlockLaws.{Block}
 use Rattle.des.proofs.ByteLaws.{block-of-bytes, bytes-of-bits, bits-of-bytes}
 use Rattle.des.proofs.CipherLaws.{cipher-block, decipher-back, encipher-back}
 use Rattle.des.proofs.ParityLaws.{same-encipher, same-decipher, same-used}
@@ -99,16 +95,4 @@ complements =
     record {
       enciphers = complemented encipherBits encipher-complement (λ k bs b. cipher-block _ bs b);
       deciphers = complemented decipherBits decipher-complement (λ k bs b. cipher-block _ bs b);
-    }
-
--- ---- the joined table
-
-pub joined-entries : JoinedEntries
-unfolding moved p
-joined-entries =
-    record {
-      long = length-joined;
-      moves = λ k g hk hg. ap (permute middle) (joined-at k g hk hg .same) ∙ middle-of (moved k g) (length-permute p (placed 32 k (select k (bits 6 g))));
-      expands = λ k g hk hg. joined-at k g hk hg .same;
-      fits = λ k g hk hg. joined-at k g hk hg .fits;
     }

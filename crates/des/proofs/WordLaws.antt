@@ -1,6 +1,6 @@
 -- What the code does to words, on the bits that they hold.
 -- Assumes nothing.
-use mathlib.Core.Path.{_≡_, refl, ap, ap₂, _∙_, subst⁻¹}
+use mathlib.Core.Path.{_≡_, refl, sym, ap, ap₂, _∙_, subst, subst⁻¹}
 use mathlib.Core.List.{List, _++_}
 use Prim.Native.Nat.{ℕ, _+_, _-_, _*_, _/_, _%_, _^_, _≤_, _<_}
 use native.Mathlib.Nat.{mod-lt}
@@ -15,8 +15,11 @@ use Rattle.des.proofs.BitLaws.{take-bits, drop-bits, mod-bits, join-bit
 pub recast : {w x : ℕ} {bs cs : List ℕ} → Holds w x bs → bs ≡ cs → Holds w x cs
 recast h e = record { fits = h .fits; same = h .same ∙ e }
 
+pub resize : {v w x : ℕ} {bs : List ℕ} → v ≡ w → Holds v x bs → Holds w x bs
+resize {x = x} {bs = bs} e h = subst (λ (n : ℕ). Holds n x bs) e h
+
 -- `(r << k) | q`
-push : (w k : ℕ) {r q : ℕ} → w + k ≤ 64 → r < 2 ^ w → q < 2 ^ k → bitOr (r * 2 ^ k % 2 ^ 64) q ≡ r * 2 ^ k + q
+pub push : (w k : ℕ) {r q : ℕ} → w + k ≤ 64 → r < 2 ^ w → q < 2 ^ k → bitOr (r * 2 ^ k % 2 ^ 64) q ≡ r * 2 ^ k + q
 push w k {r} {q} h hr hq = ap (λ (n : ℕ). bitOr n q) (shl-exact w k 64 hr h) ∙ or-shifted r k q hq
 
 pub pushed : (w k : ℕ) {r q : ℕ} {bs cs : List ℕ} → w + k ≤ 64 → Holds w r bs → Holds k q cs → Holds (w + k) (bitOr (r * 2 ^ k % 2 ^ 64) q) (bs ++ cs)
@@ -49,3 +52,7 @@ xored w {x} {y} hx hy =
 
 pub part-bits : (a b c x : ℕ) → take b (drop a (bits (a + (b + c)) x)) ≡ bits b (x / 2 ^ c)
 part-bits a b c x = ap (take b) (drop-bits a (b + c) x) ∙ take-bits b c x
+
+-- b bits of x with a before them and c behind
+pub group-bits : (a b c x : ℕ) → bits b (bitAnd (x / 2 ^ c) (2 ^ b - 1)) ≡ take b (drop a (bits (a + (b + c)) x))
+group-bits a b c x = masked b (x / 2 ^ c) .same ∙ sym (part-bits a b c x)

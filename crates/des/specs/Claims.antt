@@ -3,15 +3,12 @@
 use mathlib.Core.Path.{_≡_}
 use mathlib.Core.Bool.{Bool, true, false}
 use mathlib.Core.List.{List, [], _∷_, map}
-use Prim.Native.Nat.{ℕ, suc, _+_, _-_, _*_, _/_, _^_, _<_}
+use Prim.Native.Nat.{ℕ, suc, _-_, _*_, _/_, _<_}
 use lib.Dec.{eqb}
 use lib.ListN.{length, getD, take, drop}
 use Rattle.octets.specs.Bytes.{Bytes}
-use Rattle.des.specs.Bits.{bits}
-use Rattle.des.specs.Tables.{e, p, sboxes}
-use Rattle.des.specs.Des.{permute, select, desEncipher, desDecipher}
-use Rattle.des.specs.Networks.{middle}
-use Rattle.des.specs.Joined.{placed, joined}
+use Rattle.des.specs.Tables.{sboxes}
+use Rattle.des.specs.Des.{desEncipher, desDecipher}
 
 -- ---- the rows of the S-boxes
 
@@ -68,12 +65,3 @@ complement bs = map (λ (b : ℕ). 255 - b) bs
 pub record Complements : Type 0 where
   pub enciphers : (key block : List ℕ) → Block8 key → Block8 block → desEncipher (complement key) (complement block) ≡ complement (desEncipher key block)
   pub deciphers : (key block : List ℕ) → Block8 key → Block8 block → desDecipher (complement key) (complement block) ≡ complement (desDecipher key block)
-
--- ---- the joined table
-
--- an entry, the 48 bits of a number: the middle four of each six are its box's four bits moved by P, and the whole is that half expanded by E
-pub record JoinedEntries : Type 0 where
-  pub long : length joined ≡ 512
-  pub moves : (k g : ℕ) → k < 8 → g < 64 → permute middle (bits 48 (getD joined (64 * k + g) 0)) ≡ permute p (placed 32 k (select k (bits 6 g)))
-  pub expands : (k g : ℕ) → k < 8 → g < 64 → bits 48 (getD joined (64 * k + g) 0) ≡ permute e (permute p (placed 32 k (select k (bits 6 g))))
-  pub fits : (k g : ℕ) → k < 8 → g < 64 → getD joined (64 * k + g) 0 < 2 ^ 48

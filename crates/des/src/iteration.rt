@@ -1,97 +1,88 @@
-// The sixteen iterations on the two halves of a block, each expanded, without the permutations before and after them.
+// The sixteen iterations, on the two halves of a block in one word.
 ghost use mathlib.Core.Path.{_≡_};
 ghost use Prim.Native.Nat.{_<_};
-ghost use Rattle.des.specs.Words.{turned};
-ghost use Rattle.des.specs.Joined.{joined};
-ghost use Rattle.des.specs.Inside.{Rounds, Iterates, Passes};
-use crate::Halves;
-use crate::Three;
+ghost use Rattle.des.specs.Bits.{bits};
+ghost use Rattle.des.specs.Tables.{e, p, sboxes};
+ghost use Rattle.des.specs.Des.{cipherFunction, swap, round as rounded, rounds, cipher};
+ghost use Rattle.des.specs.Words.{Holds, turned, keysOf};
+use crate::permutation::expand;
+use crate::permutation::initial;
+use crate::permutation::inverse_initial;
+use crate::permutation::permute_p;
 use crate::selection::substitute;
+use crate::tables::box_table;
+use crate::tables::e_table;
+use crate::tables::p_table;
+
+// The cipher function f(R, K).
+fn cipher_function(r: u64, k: u64, expansion: &[u8], boxes: &[u8], permutation: &[u8]) -> u64
+    requires { ⌜ (now expansion ≡ e) × ((now boxes ≡ sboxes) × (now permutation ≡ p)) ⌝ }
+    ensures { λ q. ⌜ Holds 32 q (cipherFunction (bits 32 r) (bits 48 k)) ⌝ }
+{
+    permute_p(substitute(expand(r, expansion) ^ k, boxes), permutation)
+}
 
 // One iteration.
-fn round(h: Halves, k: u64, table: &[u64]) -> Halves
-    requires { ⌜ now table ≡ joined ⌝ }
-    ensures { λ r. ⌜ Rounds h k r ⌝ }
+fn round(lr: u64, k: u64, expansion: &[u8], boxes: &[u8], permutation: &[u8]) -> u64
+    requires { ⌜ (now expansion ≡ e) × ((now boxes ≡ sboxes) × (now permutation ≡ p)) ⌝ }
+    ensures { λ r. ⌜ bits 64 r ≡ rounded (bits 48 k) (bits 64 lr) ⌝ }
 {
-    Halves {
-        left: h.right,
-        right: h.left ^ substitute(h.right ^ k, table),
-    }
+    let l = lr >> 32;
+    let r = lr & 0xffff_ffff;
+    (r << 32) | (l ^ cipher_function(r, k, expansion, boxes, permutation))
 }
 
 // The place of the key of an iteration: from the last to the first where `back` is true.
-fn turn(back: bool, n: usize) -> usize
+pub fn turn(back: bool, n: usize) -> usize
     requires { ⌜ n < 16 ⌝ }
     ensures { λ r. ⌜ r ≡ turned back n ⌝ }
 {
     if back { 15 - n } else { n }
 }
 
-fn iterations(h: Halves, keys: [u64; 16], back: bool, table: &[u64]) -> Halves
-    requires { ⌜ now table ≡ joined ⌝ }
-    ensures { λ r. ⌜ Iterates h keys back 16 r ⌝ }
+// The sixteen iterations, by lent tables.
+fn iterations(
+    lr: u64,
+    keys: [u64; 16],
+    back: bool,
+    expansion: &[u8],
+    boxes: &[u8],
+    permutation: &[u8],
+) -> u64
+    requires { ⌜ (now expansion ≡ e) × ((now boxes ≡ sboxes) × (now permutation ≡ p)) ⌝ }
+    ensures { λ r. ⌜ bits 64 r ≡ rounds (keysOf keys back) 16 (bits 64 lr) ⌝ }
 {
-    let mut s = h;
+    let mut s = lr;
     let mut n = 0;
     while n < 16 {
         let at = turn(back, n);
-        s = round(s, keys[at], table);
+        s = round(s, keys[at], expansion, boxes, permutation);
         n += 1;
     }
     s
 }
 
+// The tables are written out once for all sixteen.
+fn iterate(lr: u64, keys: [u64; 16], back: bool) -> u64
+    ensures { λ r. ⌜ bits 64 r ≡ rounds (keysOf keys back) 16 (bits 64 lr) ⌝ }
+{
+    let expansion = e_table();
+    let boxes = box_table();
+    let permutation = p_table();
+    iterations(lr, keys, back, &expansion, &boxes, &permutation)
+}
+
 // The halves exchanged.
-fn exchange(h: Halves) -> Halves
-    ensures { λ r. ⌜ (r .left ≡ h .right) × (r .right ≡ h .left) ⌝ }
+fn exchange(s: u64) -> u64
+    ensures { λ r. ⌜ bits 64 r ≡ swap 32 (bits 64 s) ⌝ }
 {
-    Halves {
-        left: h.right,
-        right: h.left,
-    }
+    ((s & 0xffff_ffff) << 32) | (s >> 32)
 }
 
-// The sixteen iterations, and the halves exchanged.
-pub fn pass(h: Halves, keys: [u64; 16], back: bool, table: &[u64]) -> Halves
-    requires { ⌜ now table ≡ joined ⌝ }
-    ensures { λ r. ⌜ Passes h keys back r ⌝ }
+// IP, the sixteen iterations, the halves exchanged, and the inverse of IP.
+pub fn crypt(keys: [u64; 16], x: u64, back: bool) -> u64
+    ensures { λ r. ⌜ bits 64 r ≡ cipher (keysOf keys back) (bits 64 x) ⌝ }
 {
-    exchange(iterations(h, keys, back, table))
-}
-
-// The same for three blocks side by side, which a processor works on at once: two with some keys, the third with others.
-fn iterations_three(
-    s: Three,
-    keys: [u64; 16],
-    others: [u64; 16],
-    back: bool,
-    table: &[u64],
-) -> Three
-    requires { ⌜ now table ≡ joined ⌝ }
-    ensures { λ r. ⌜ (Iterates (s .one) keys back 16 (r .one)) × ((Iterates (s .two) keys back 16 (r .two)) × (Iterates (s .three) others back 16 (r .three))) ⌝ }
-{
-    let mut one = s.one;
-    let mut two = s.two;
-    let mut three = s.three;
-    let mut n = 0;
-    while n < 16 {
-        let at = turn(back, n);
-        one = round(one, keys[at], table);
-        two = round(two, keys[at], table);
-        three = round(three, others[at], table);
-        n += 1;
-    }
-    Three { one, two, three }
-}
-
-pub fn pass_three(s: Three, keys: [u64; 16], others: [u64; 16], back: bool, table: &[u64]) -> Three
-    requires { ⌜ now table ≡ joined ⌝ }
-    ensures { λ r. ⌜ (Passes (s .one) keys back (r .one)) × ((Passes (s .two) keys back (r .two)) × (Passes (s .three) others back (r .three))) ⌝ }
-{
-    let t = iterations_three(s, keys, others, back, table);
-    Three {
-        one: exchange(t.one),
-        two: exchange(t.two),
-        three: exchange(t.three),
-    }
+    let s = iterate(initial(x), keys, back);
+    inverse_initial(exchange(s))
 }

@@ -1,27 +1,22 @@
-// The Data Encryption Standard, FIPS 46-3, and its inverse.
+// The Data Encryption Standard, FIPS 46-3, and its inverse, as the standard prints them: every permutation and the boxes by their tables.
 ghost use mathlib.Core.Path.{_≡_};
+ghost use mathlib.Core.Bool.{true, false};
 ghost use Rattle.des.specs.Bits.{bits, bitsOfBytes, bytesOfBits};
-ghost use Rattle.des.specs.Des.{desEncipher, desDecipher};
-ghost use Rattle.des.specs.Words.{Keys, Enciphers, Deciphers};
-ghost use Rattle.des.specs.Joined.{joined, pc2Groups};
-ghost use Rattle.des.specs.Inside.{Entered, Leaves, Adds, EnciphersInside, DeciphersInside};
-use crate::iteration::pass;
-use crate::iteration::pass_three;
+ghost use Rattle.des.specs.Des.{cipher, desEncipher, desDecipher};
+ghost use Rattle.des.specs.Words.{Keys, keysOf};
+use crate::iteration::crypt;
 use crate::permutation::choice1;
 use crate::permutation::choice2;
-use crate::permutation::expand;
-use crate::permutation::initial;
-use crate::permutation::inverse_initial;
-use crate::permutation::narrow;
-use crate::shift::shift;
-use crate::tables::JOINED;
-use crate::tables::PC2_GROUPS;
+use crate::selection::wide;
+use crate::shift::shift_both;
+use crate::tables::SHIFTS;
+use crate::tables::pc2_table;
 
-mod iteration;
-mod permutation;
-mod selection;
+pub mod iteration;
+pub mod permutation;
+pub mod selection;
 mod shift;
-mod tables;
+pub mod tables;
 
 // The block enciphered with the key.
 pub fn encipher(key: [u8; 8], block: [u8; 8]) -> [u8; 8]
@@ -37,28 +32,35 @@ pub fn decipher(key: [u8; 8], block: [u8; 8]) -> [u8; 8]
     store(decipher_word(schedule(load(key)), load(block)))
 }
 
-// ---- for the crates above: a key's schedule once, and blocks as words
+// ---- a key's schedule once, and blocks as words
 
 // The keys of the sixteen iterations.
 pub fn schedule(key: u64) -> [u64; 16]
     ensures { λ r. ⌜ Keys (bits 64 key) r ⌝ }
 {
-    let groups = pc2_table();
-    schedule_by(key, &groups)
+    let table = pc2_table();
+    let mut keys = [0u64; 16];
+    let mut cd = choice1(key);
+    let mut n = 0;
+    while n < 16 {
+        cd = shift_both(cd, wide(SHIFTS[n]));
+        keys[n] = choice2(cd, &table);
+        n += 1;
+    }
+    keys
 }
 
+// A block enciphered, and deciphered, with any sixteen keys.
 pub fn encipher_word(keys: [u64; 16], x: u64) -> u64
-    ensures { λ r. ⌜ Enciphers keys x r ⌝ }
+    ensures { λ r. ⌜ bits 64 r ≡ cipher (keysOf keys false) (bits 64 x) ⌝ }
 {
-    let table = joined_table();
-    leave(encipher_halves(enter(x), keys, &table))
+    crypt(keys, x, false)
 }
 
 pub fn decipher_word(keys: [u64; 16], x: u64) -> u64
-    ensures { λ r. ⌜ Deciphers keys x r ⌝ }
+    ensures { λ r. ⌜ bits 64 r ≡ cipher (keysOf keys true) (bits 64 x) ⌝ }
 {
-    let table = joined_table();
-    leave(decipher_halves(enter(x), keys, &table))
+    crypt(keys, x, true)
 }
 
 // Eight bytes as one word, the first the most significant, and back.
@@ -74,106 +76,4 @@ pub fn store(x: u64) -> [u8; 8]
     let mut b = [0u8; 8];
     octets::put64(&mut b, 0, x);
     b
-}
-
-// ---- for the crates above: many blocks, and each table written out once
-
-// A block between IP and its inverse: its halves, each expanded to 48 bits.
-pub struct Halves {
-    pub left: u64,
-    pub right: u64,
-}
-
-// Three blocks side by side.
-pub struct Three {
-    pub one: Halves,
-    pub two: Halves,
-    pub three: Halves,
-}
-
-// The tables: each call writes one out, so a MAC makes one of each and lends it.
-pub fn joined_table() -> [u64; 512]
-    ensures { λ r. ⌜ r ≡ joined ⌝ }
-{
-    JOINED
-}
-
-pub fn pc2_table() -> [u64; 224]
-    ensures { λ r. ⌜ r ≡ pc2Groups ⌝ }
-{
-    PC2_GROUPS
-}
-
-// The keys of the sixteen iterations, by a lent table.
-pub fn schedule_by(key: u64, groups: &[u64]) -> [u64; 16]
-    requires { ⌜ now groups ≡ pc2Groups ⌝ }
-    ensures { λ r. ⌜ Keys (bits 64 key) r ⌝ }
-{
-    let mut keys = [0u64; 16];
-    let mut cd = choice1(key);
-    let mut n = 0;
-    while n < 16 {
-        cd = shift(cd, n);
-        keys[n] = choice2(cd, groups);
-        n += 1;
-    }
-    keys
-}
-
-// IP, and each half expanded.
-pub fn enter(x: u64) -> Halves
-    ensures { λ r. ⌜ Entered r (bits 64 x) ⌝ }
-{
-    let y = initial(x);
-    Halves {
-        left: expand(y >> 32),
-        right: expand(y),
-    }
-}
-
-// The halves as they were before they were expanded, and the inverse of IP.
-pub fn leave(h: Halves) -> u64
-    ensures { λ r. ⌜ Leaves h r ⌝ }
-{
-    inverse_initial((narrow(h.left) << 32) | narrow(h.right))
-}
-
-// Two blocks added bit by bit.
-pub fn add(a: Halves, b: Halves) -> Halves
-    ensures { λ r. ⌜ Adds a b r ⌝ }
-{
-    Halves {
-        left: a.left ^ b.left,
-        right: a.right ^ b.right,
-    }
-}
-
-// A block enciphered, and deciphered. The inverse of IP and the IP of the next block cancel, so neither is done.
-pub fn encipher_halves(h: Halves, keys: [u64; 16], table: &[u64]) -> Halves
-    requires { ⌜ now table ≡ joined ⌝ }
-    ensures { λ r. ⌜ EnciphersInside h keys r ⌝ }
-{
-    pass(h, keys, false, table)
-}
-
-pub fn decipher_halves(h: Halves, keys: [u64; 16], table: &[u64]) -> Halves
-    requires { ⌜ now table ≡ joined ⌝ }
-    ensures { λ r. ⌜ DeciphersInside h keys r ⌝ }
-{
-    pass(h, keys, true, table)
-}
-
-// Three blocks enciphered, two with some keys and the third with others; and three deciphered.
-pub fn encipher_three(s: Three, keys: [u64; 16], others: [u64; 16], table: &[u64]) -> Three
-    requires { ⌜ now table ≡ joined ⌝ }
-    ensures { λ r. ⌜ (EnciphersInside (s .one) keys (r .one)) × ((EnciphersInside (s .two) keys (r .two)) × (EnciphersInside (s .three) others (r .three))) ⌝ }
-{
-    pass_three(s, keys, others, false, table)
-}
-
-pub fn decipher_three(s: Three, keys: [u64; 16], table: &[u64]) -> Three
-    requires { ⌜ now table ≡ joined ⌝ }
-    ensures { λ r. ⌜ (DeciphersInside (s .one) keys (r .one)) × ((DeciphersInside (s .two) keys (r .two)) × (DeciphersInside (s .three) keys (r .three))) ⌝ }
-{
-    pass_three(s, keys, keys, true, table)
 }

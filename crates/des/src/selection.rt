@@ -1,33 +1,40 @@
-// The selection functions S1 to S8 with P and E behind them, by one joined table.
+// The selection functions S1 to S8, by the table of the boxes.
 ghost use mathlib.Core.Path.{_≡_};
-ghost use Prim.Native.Nat.{_*_, _/_, _-_, _^_, _<_};
-ghost use lib.Bits.{bitAnd};
+ghost use Prim.Native.Nat.{_<_};
 ghost use Rattle.des.specs.Bits.{bits};
-ghost use Rattle.des.specs.Tables.{e, p};
-ghost use Rattle.des.specs.Des.{permute as permuted, selects};
+ghost use Rattle.des.specs.Tables.{sboxes};
+ghost use Rattle.des.specs.Des.{select as selected, selects};
 ghost use Rattle.des.specs.Words.{Holds};
-ghost use Rattle.des.specs.Joined.{joined, moved};
 
-// What box k selects for its six of the 48 bits, moved by P and expanded.
-fn select(k: usize, x: u64, table: &[u64]) -> u64
-    requires { ⌜ (k < 8) × (now table ≡ joined) ⌝ }
-    ensures { λ r. ⌜ Holds 48 r (permuted e (moved k (bitAnd (x / 2 ^ (42 - 6 * k)) 63))) ⌝ }
+// A byte as a word.
+pub fn wide(x: u8) -> u64
+    ensures { λ r. ⌜ (r ≡ x) × (r < 256) ⌝ }
 {
-    let group = (x >> (42 - 6 * (k as u64))) & 63;
-    let at = 64 * k + (group as usize);
-    table[at]
+    x as u64
 }
 
-// The eight boxes, each at its six of the 48 bits, then P and E. The last box goes first: its bits need no shift.
-pub fn substitute(x: u64, table: &[u64]) -> u64
-    requires { ⌜ now table ≡ joined ⌝ }
-    ensures { λ r. ⌜ Holds 48 r (permuted e (permuted p (selects 8 (bits 48 x)))) ⌝ }
+// What box k selects for a group of six bits: the outer two are the row, the four between them the column.
+pub fn select(k: usize, group: u64, boxes: &[u8]) -> u64
+    requires { ⌜ (k < 8) × ((group < 64) × (now boxes ≡ sboxes)) ⌝ }
+    ensures { λ r. ⌜ Holds 4 r (selected k (bits 6 group)) ⌝ }
+{
+    let row = ((group >> 5) << 1) | (group & 1);
+    let column = (group >> 1) & 15;
+    let at = 64 * k + 16 * (row as usize) + (column as usize);
+    wide(boxes[at])
+}
+
+// The eight boxes, each at its six of the 48 bits.
+pub fn substitute(x: u64, boxes: &[u8]) -> u64
+    requires { ⌜ now boxes ≡ sboxes ⌝ }
+    ensures { λ r. ⌜ Holds 32 r (selects 8 (bits 48 x)) ⌝ }
 {
     let mut r: u64 = 0;
-    let mut k: usize = 8;
-    while 0 < k {
-        k -= 1;
-        r = select(k, x, table) ^ r;
+    let mut k: usize = 0;
+    while k < 8 {
+        let group = (x >> (42 - 6 * (k as u64))) & 63;
+        r = (r << 4) | select(k, group, boxes);
+        k += 1;
     }
     r
 }

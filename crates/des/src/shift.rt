@@ -1,32 +1,22 @@
 // The left shifts of the key schedule.
-ghost use mathlib.Core.Path.{_≡_};
-ghost use Prim.Native.Nat.{_≤_, _<_};
-ghost use lib.ListN.{getD};
+ghost use Prim.Native.Nat.{_≤_};
 ghost use Rattle.des.specs.Bits.{bits};
-ghost use Rattle.des.specs.Tables.{shifts};
-ghost use Rattle.des.specs.Des.{shiftBoth};
+ghost use Rattle.des.specs.Des.{swap, shiftBoth};
 ghost use Rattle.des.specs.Words.{Holds};
-ghost use Rattle.des.specs.Networks.{shiftParts};
 
-// Bit n is set where iteration n shifts by one place; the other iterations shift by two.
-const SINGLE_SHIFTS: u64 = 0x8103;
-
-// The bits that `high` names n places up, and those that `low` names round to the other end of a half.
-fn shift_parts(cd: u64, n: u64, high: u64, low: u64) -> u64
+// The low 28 bits of x, n places to the left, and round.
+fn rotate28(x: u64, n: u64) -> u64
     requires { ⌜ n ≤ 28 ⌝ }
-    ensures { λ r. ⌜ r ≡ shiftParts n high low cd ⌝ }
+    ensures { λ r. ⌜ Holds 28 r (swap n (bits 28 x)) ⌝ }
 {
-    ((cd << n) & high) ^ ((cd >> (28 - n)) & low)
+    let y = x & 0xfff_ffff;
+    ((y << n) | (y >> (28 - n))) & 0xfff_ffff
 }
 
-// Both halves of the 56 bits shifted to the left as iteration n asks, and round.
-pub fn shift(cd: u64, n: usize) -> u64
-    requires { ⌜ n < 16 ⌝ }
-    ensures { λ r. ⌜ Holds 56 r (shiftBoth (getD shifts n 0) (bits 56 cd)) ⌝ }
+// Both halves of the 56 bits, n places to the left.
+pub fn shift_both(cd: u64, n: u64) -> u64
+    requires { ⌜ n ≤ 28 ⌝ }
+    ensures { λ r. ⌜ Holds 56 r (shiftBoth n (bits 56 cd)) ⌝ }
 {
-    if (SINGLE_SHIFTS >> (n as u64)) & 1 == 1 {
-        shift_parts(cd, 1, 0xff_ffff_efff_fffe, 0x1000_0001)
-    } else {
-        shift_parts(cd, 2, 0xff_ffff_cfff_fffc, 0x3000_0003)
-    }
+    (rotate28(cd >> 28, n) << 28) | rotate28(cd, n)
 }

@@ -14,7 +14,7 @@ use store::Emptied;
 use store::Found;
 ghost use mathlib.Core.Path.{_≡_};
 ghost use lib.ListN.{length};
-ghost use Rattle.refusal.specs.House.{house, houseNumber, unlessRefused};
+ghost use Rattle.refusal.specs.House.{house, gives, houseNumber, unlessRefused};
 ghost use Rattle.des.specs.Des.{desEncipher, desDecipher};
 ghost use Rattle.store.specs.Layout.{editionOf};
 ghost use Rattle.store.specs.Search.{find, emptyIn, emptied};
@@ -32,6 +32,14 @@ fn refused(h: Refusal) -> i32
     ensures { λ r. ⌜ r ≡ code (house (houseNumber h)) ⌝ }
 {
     0 - (house_number(h) as i32)
+}
+
+// The self-test at power-on. It is proved to answer 0: anything else says that the machine is not the one that the proofs are about.
+#[no_mangle]
+pub extern "C" fn kmac_self_test() -> i32
+    ensures { λ r. ⌜ r ≡ code (gives 0) ⌝ }
+{
+    if self_test::self_test() { 0 } else { 0 - 1 }
 }
 
 // Enciphers a block.

@@ -6,6 +6,7 @@ use Prim.Native.Nat.{ℕ}
 use Rattle.des.specs.Bits.{bitsOfBytes, bytesOfBits}
 use Rattle.des.specs.Des.{decipherBits, desDecipher}
 use Rattle.des.specs.Words.{Keys}
+use Rattle.des.proofs.KeyLaws.{deciphers}
 use borrow.Author.Needs.{needs}
 use Rattle.des.proofs.decipher.Statement.{statement}
 use Rattle.des.proofs.decipher.Tie as tie
@@ -33,7 +34,7 @@ returns c =
     let key = bitsOfBytes (a .key) in
     let keys : Keys key (p .schedule .result) = subst (λ (l : List ℕ). Keys l (p .schedule .result)) (p .before .load .ensures) (p .schedule .ensures) in
     c .store .ensures
-    ∙ ap (bytesOfBits 8) (c .before .decipher-word .ensures .by key keys ∙ ap (decipherBits key) (c .before .before .load2 .ensures))
+    ∙ ap (bytesOfBits 8) (c .before .decipher-word .ensures ∙ deciphers key (p .schedule .result) _ keys ∙ ap (decipherBits key) (c .before .before .load2 .ensures))
 
 pub decipher-spec : {M : Type 1} → statement M
 decipher-spec =

@@ -6,6 +6,7 @@ use Prim.Native.Nat.{ℕ}
 use Rattle.des.specs.Bits.{bitsOfBytes, bytesOfBits}
 use Rattle.des.specs.Des.{encipherBits, desEncipher}
 use Rattle.des.specs.Words.{Keys}
+use Rattle.des.proofs.KeyLaws.{enciphers}
 use borrow.Author.Needs.{needs}
 use Rattle.des.proofs.encipher.Statement.{statement}
 use Rattle.des.proofs.encipher.Tie as tie
@@ -33,7 +34,7 @@ returns c =
     let key = bitsOfBytes (a .key) in
     let keys : Keys key (p .schedule .result) = subst (λ (l : List ℕ). Keys l (p .schedule .result)) (p .before .load .ensures) (p .schedule .ensures) in
     c .store .ensures
-    ∙ ap (bytesOfBits 8) (c .before .encipher-word .ensures .by key keys ∙ ap (encipherBits key) (c .before .before .load2 .ensures))
+    ∙ ap (bytesOfBits 8) (c .before .encipher-word .ensures ∙ enciphers key (p .schedule .result) _ keys ∙ ap (encipherBits key) (c .before .before .load2 .ensures))
 
 pub encipher-spec : {M : Type 1} → statement M
 encipher-spec =

@@ -7,8 +7,8 @@ use native.Mathlib.Omega.{arith}
 use lib.ListN.{length}
 use Rattle.octets.specs.Bytes.{number}
 use Rattle.des.specs.Bits.{bits}
-use Rattle.des.specs.declared.Halves.{Halves}
-use Rattle.des.specs.Inside.{Entered}
+use Rattle.fast_des.specs.declared.Halves.{Halves}
+use Rattle.fast_des.specs.Inside.{Entered}
 use Rattle.authentication.specs.Mac.{block, chain, macString}
 use Rattle.authentication.proofs.PairLaws.{length-string}
 use Rattle.authentication.proofs.MacLaws.{chain-start, block-entered, chain-step}

@@ -6,8 +6,8 @@ use borrow.Author.Needs.{needs}
 use Rattle.authentication.proofs.cbc.mac_word.Statement.{statement}
 use Rattle.authentication.proofs.cbc.mac_word.Tie as tie
 
-pc2-table-requires : tie.Need-pc2-table-requires
-pc2-table-requires c κs = search needs
+groups-table-requires : tie.Need-groups-table-requires
+groups-table-requires c κs = search needs
 
 joined-table-requires : tie.Need-joined-table-requires
 joined-table-requires c κs = search needs
@@ -66,7 +66,7 @@ pub mac-word-spec : {M : Type 1} → statement M
 mac-word-spec =
     tie.close
     (tie.spec
-    pc2-table-requires
+    groups-table-requires
     joined-table-requires
     slice-aggregate-chain-halves
     slice-aggregate-chain-halves-2

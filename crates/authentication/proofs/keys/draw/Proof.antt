@@ -6,8 +6,8 @@ use borrow.Author.Needs.{needs}
 use Rattle.authentication.proofs.keys.draw.Statement.{statement}
 use Rattle.authentication.proofs.keys.draw.Tie as tie
 
-pc2-table-requires : tie.Need-pc2-table-requires
-pc2-table-requires c κs = search needs
+groups-table-requires : tie.Need-groups-table-requires
+groups-table-requires c κs = search needs
 
 slice-aggregate-schedule-at : tie.Need-slice-aggregate-schedule-at
 slice-aggregate-schedule-at c = search needs
@@ -56,7 +56,7 @@ pub draw-spec : {M : Type 1} → statement M
 draw-spec =
     tie.close
     (tie.spec
-    pc2-table-requires
+    groups-table-requires
     slice-aggregate-schedule-at
     schedule-at-requires
     slice-aggregate-schedule-at-2

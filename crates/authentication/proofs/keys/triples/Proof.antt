@@ -2,10 +2,10 @@
 -- Assumes nothing.
 use mathlib.Core.List.{List}
 use Prim.Native.Nat.{ℕ}
-use Rattle.des.specs.declared.Halves.{Halves}
+use Rattle.fast_des.specs.declared.Halves.{Halves}
 use Rattle.des.specs.Bits.{bits}
 use Rattle.des.specs.Des.{encipherBits, decipherBits}
-use Rattle.des.specs.Inside.{Entered, Leaves, EnciphersInside, DeciphersInside}
+use Rattle.fast_des.specs.Inside.{Entered, Leaves, EnciphersInside, DeciphersInside}
 use Rattle.authentication.specs.Keys.{triple, Triples}
 use borrow.Author.Needs.{needs}
 use Rattle.authentication.proofs.keys.triples.Statement.{statement}

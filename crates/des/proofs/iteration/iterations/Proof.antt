@@ -1,30 +1,40 @@
--- `des::iteration::iterations` meets its contract. The loop's invariant: s holds the halves after n iterations.
+-- `des::iteration::iterations` meets its contract. The loop's invariant: s holds the block after n iterations.
 -- Assumes nothing.
-use mathlib.Core.Path.{_≡_, subst}
-use Prim.Native.Nat.{ℕ, _-_, _≤_, _<_}
+use mathlib.Core.Path.{_≡_, refl, sym, ap, ap₂, _∙_}
+use mathlib.Core.List.{List}
+use Prim.Native.Nat.{ℕ, _+_, _≤_, _<_, _-_}
 use native.Mathlib.Omega.{arith}
-use Rattle.des.specs.Inside.{Iterates}
+use native.Mathlib.Numerals.{add-one}
+use lib.ListN.{getD}
+use Rattle.des.specs.Bits.{bits}
+use Rattle.des.specs.Des as des
+use Rattle.des.specs.Words.{keysOf}
 use Rattle.des.proofs.KeyLaws.{turned-below}
-use Rattle.des.proofs.InsideLaws.{iterate-none, iterate-more}
 use Rattle.des.proofs.iteration.iterations.Statement.{statement}
 use Rattle.des.proofs.iteration.iterations.Tie as tie
 
 abbrev Inv-loop : tie.InvT-loop
-Inv-loop back table keys s₀ n₀ s n = (n ≤ 16) × Iterates s₀ keys back n s
+Inv-loop lr back expansion boxes permutation keys s₀ n₀ s n = (n ≤ 16) × (bits 64 s ≡ des.rounds (keysOf keys back) n (bits 64 lr))
 
 abbrev μ-loop : tie.MeasureT-loop
-μ-loop back table keys s₀ n₀ s n = 16 - n
+μ-loop lr back expansion boxes permutation keys s₀ n₀ s n = 16 - n
+
+next : (ks : ℕ → List ℕ) (n : ℕ) (l s t k : List ℕ) → s ≡ des.rounds ks n l → t ≡ des.round k s → k ≡ ks n → t ≡ des.rounds ks (n + 1) l
+unfolding des.rounds
+next ks n l s t k hs ht hk = ht ∙ ap₂ des.round hk hs ∙ ap (λ (m : ℕ). des.rounds ks m l) (sym (add-one n))
 
 loop-holds : tie.Need-loop-holds Inv-loop μ-loop
-loop-holds c =
-    let a = c .before .args in
-    (omega arith, iterate-none (a .h) (a .t2) (a .back))
+unfolding des.rounds
+loop-holds c = (omega arith, refl)
 
 turn-requires : tie.Need-turn-requires Inv-loop μ-loop
 turn-requires c κs = c .loop-test .taken
 
 at-below : (c : tie.After-turn Inv-loop μ-loop) → c .turn .result < 16
-at-below c = turned-below (c .before .before .before .before .args .back) (c .before .before .loop .n) (c .turn .result) (c .before .loop-test .taken) (c .turn .ensures)
+at-below c =
+    let loop = c .before .before in
+    let start = loop .before .before .before .before in
+    turned-below (start .args .back) (loop .loop .n) (c .turn .result) (c .before .loop-test .taken) (c .turn .ensures)
 
 mul-round : tie.Need-mul-round Inv-loop μ-loop
 mul-round c = omega (arith, at-below c)
@@ -33,7 +43,9 @@ array-read-round : tie.Need-array-read-round Inv-loop μ-loop
 array-read-round c = at-below c
 
 round-requires : tie.Need-round-requires Inv-loop μ-loop
-round-requires c κs = c .before .before .before .before .pre
+round-requires c κs =
+    let loop = c .before .before in
+    loop .before .before .before .before .pre
 
 add-n : tie.Need-add-n Inv-loop μ-loop
 add-n c = omega arith
@@ -43,19 +55,20 @@ loop-less c = omega arith
 
 loop-again : tie.Need-loop-again Inv-loop μ-loop
 loop-again c =
-    let l = c .before .before .before in
-    let a = l .before .before .args in
-    let t = c .before .turn in (
+    let loop = c .before .before .before in
+    let a = loop .before .before .before .before .args in
+    let keys = a .t2 in (
       omega arith,
-      iterate-more (a .h) (l .loop .s) (c .round .result) (a .t2) (a .back) (l .loop .n) (t .result) (t .ensures) (l .loop .inv .1) (c .round .ensures),
+      next (keysOf keys (a .back)) (loop .loop .n) (bits 64 (a .lr)) (bits 64 (loop .loop .s)) (bits 64 (c .round .result))
+          (bits 48 (getD keys (c .before .turn .result) 0)) (loop .loop .inv .1) (c .round .ensures) (ap (λ (m : ℕ). bits 48 (getD keys m 0)) (c .before .turn .ensures)),
     )
 
 returns : tie.Need-returns Inv-loop μ-loop
 returns c =
-    let l = c .before .loop in
-    let a = c .before .before .before .args in
-    let n : l .n ≡ 16 = omega arith in
-    subst (λ (m : ℕ). Iterates (a .h) (a .t2) (a .back) m (l .s)) n (l .inv .1)
+    let loop = c .before in
+    let a = loop .before .before .before .before .args in
+    let e : loop .loop .n ≡ 16 = omega arith in
+    loop .loop .inv .1 ∙ ap (λ (m : ℕ). des.rounds (keysOf (a .t2) (a .back)) m (bits 64 (a .lr))) e
 
 pub iterations-spec : {M : Type 1} → statement M
 iterations-spec =

@@ -1,66 +1,44 @@
--- `des::selection::select` meets its contract.
+-- `des::selection::select` meets its contract: the row and the column are the numbers that the bits represent, and each entry of the table is below 16.
 -- Assumes nothing.
-use mathlib.Core.Path.{_≡_, ap, _∙_, subst⁻¹}
-use mathlib.Core.List.{List}
-use Prim.Native.Nat.{ℕ, _+_, _-_, _*_, _/_, _^_, _<_}
-use native.Mathlib.Omega.{arith}
-use lib.Bits.{bitAnd, mask-lt}
-use lib.ListN.{length, getD}
-use Rattle.des.specs.Tables.{e}
-use Rattle.des.specs.Des.{permute}
-use Rattle.des.specs.Words.{Holds}
-use Rattle.des.specs.Joined.{moved}
-use Rattle.des.proofs.JoinedLaws.{length-joined, joined-at}
+use mathlib.Core.Path.{_≡_, _∙_, ap, subst⁻¹}
+use Prim.Native.Nat.{ℕ}
 use borrow.Author.Needs.{needs}
+use native.Mathlib.Omega.{arith}
+use lib.ListN.{length}
+use Rattle.des.specs.Bits.{bits}
+use Rattle.des.specs.Des as des
+use Rattle.des.specs.Words.{Holds}
+use Rattle.des.proofs.TableLaws.{row-number, column-number, selected, length-boxes}
 use Rattle.des.proofs.selection.select.Statement.{statement}
 use Rattle.des.proofs.selection.select.Tie as tie
-
-abbrev groupOf : tie.Start → ℕ
-groupOf c = bitAnd (c .args .x / 2 ^ (42 - 6 * c .args .k)) 63
-
-six : (c : tie.Start) → groupOf c < 64
-six c = mask-lt (c .args .x / 2 ^ (42 - 6 * c .args .k)) 6
-
-long : (c : tie.Start) → length (c .args .table .now) ≡ 512
-long c = ap length (c .pre .1) ∙ length-joined
-
-mul-group : tie.Need-mul-group
-mul-group c = search needs
-
-sub-group : tie.Need-sub-group
-sub-group c = search needs
-
-shr-group : tie.Need-shr-group
-shr-group c = search needs
 
 mul-at : tie.Need-mul-at
 mul-at c = search needs
 
+mul-at-2 : tie.Need-mul-at-2
+mul-at-2 c = let start = c .before in omega (arith, row-number (start .args .group) (start .pre .1 .0))
+
 add-at : tie.Need-add-at
-add-at c = omega (arith, six c)
+add-at c = let start = c .before in omega (arith, row-number (start .args .group) (start .pre .1 .0))
 
-mul-result : tie.Need-mul-result
-mul-result c = omega (arith, six c)
+add-at-2 : tie.Need-add-at-2
+add-at-2 c = let start = c .before in omega (arith, row-number (start .args .group) (start .pre .1 .0), column-number (start .args .group))
 
-shared-slice-read-result : tie.Need-shared-slice-read-result
-shared-slice-read-result c = omega (arith, six (c .before), long (c .before))
+shared-slice-read-wide : tie.Need-shared-slice-read-wide
+shared-slice-read-wide c =
+    let start = c .before .before in
+    let long : length (start .args .boxes .now) ≡ 512 = ap length (start .pre .1 .1) ∙ length-boxes in
+    omega (arith, row-number (start .args .group) (start .pre .1 .0), column-number (start .args .group))
+
+wide-requires : tie.Need-wide-requires
+wide-requires c κs = search needs
 
 returns : tie.Need-returns
 returns c =
-    let s = c .before in
-    let k = s .args .k in
-    let g = groupOf s in
-    subst⁻¹ (λ (n : ℕ). Holds 48 n (permute e (moved k g))) (ap (λ (l : List ℕ). getD l (64 * k + g) 0) (s .pre .1)) (joined-at k g (s .pre .0) (six s))
+    let start = c .before .before .before in
+    let a = start .args in
+    subst⁻¹ (λ (n : ℕ). Holds 4 n (des.select (a .k) (bits 6 (a .group)))) (c .wide .ensures .0)
+    (selected (a .boxes .now) (a .k) (a .group) (start .pre .1 .1) (start .pre .0) (start .pre .1 .0))
 
 pub select-spec : {M : Type 1} → statement M
-select-spec =
-    tie.close
-    (tie.spec
-    mul-group
-    sub-group
-    shr-group
-    mul-at
-    add-at
-    mul-result
-    shared-slice-read-result
-    returns)
+select-spec = tie.close (tie.spec mul-at mul-at-2 add-at add-at-2 shared-slice-read-wide wide-requires returns)

@@ -1,0 +1,4 @@
+pub mod LinearLaws
+pub mod JoinedLaws
+pub mod InsideLaws
+pub mod Theorems

@@ -1,0 +1,4 @@
+pub mod Networks
+pub mod Joined
+pub mod Inside
+pub mod Claims

@@ -1,0 +1,61 @@
+// The self-test at power-on: the tables of the code against the printed ones, DES by the tables against the joined rounds, Annex B of SUBSET-037-2, the MAC and the session keys.
+// It is proved to answer true. Where it answers false, the machine that runs it is not the one that the proofs are about: memory, processor or compiler.
+ghost use mathlib.Core.Path.{_≡_};
+ghost use mathlib.Core.Bool.{true};
+ghost use Rattle.fast_des.specs.Joined.{joined, pc2Groups};
+use crate::keys::keys_right;
+use crate::mac::annex_b;
+use crate::mac::mac_right;
+use crate::tables::groups_right;
+use crate::tables::joined_right;
+use crate::words::decipher;
+use crate::words::encipher;
+use crate::words::fast_decipher;
+use crate::words::fast_encipher;
+
+mod keys;
+mod mac;
+mod tables;
+mod words;
+
+// A block by the printed tables and by the joined rounds, both ways.
+fn block_right(key: u64, x: u64, groups: &[u64], table: &[u64]) -> bool
+    requires { ⌜ (now groups ≡ pc2Groups) × (now table ≡ joined) ⌝ }
+    ensures { λ r. ⌜ r ≡ true ⌝ }
+{
+    if encipher(key, x) != fast_encipher(key, x, groups, table) {
+        return false;
+    }
+    decipher(key, x) == fast_decipher(key, x, groups, table)
+}
+
+// What rests on the two tables of the joined rounds, lent.
+fn rounds_right(groups: &[u64], table: &[u64]) -> bool
+    requires { ⌜ (now groups ≡ pc2Groups) × (now table ≡ joined) ⌝ }
+    ensures { λ r. ⌜ r ≡ true ⌝ }
+{
+    if !joined_right(table) {
+        return false;
+    }
+    if !groups_right(groups) {
+        return false;
+    }
+    if !block_right(0x1334_5779_9bbc_dff1, 0x0123_4567_89ab_cdef, groups, table) {
+        return false;
+    }
+    annex_b(groups, table)
+}
+
+pub fn self_test() -> bool
+    ensures { λ r. ⌜ r ≡ true ⌝ }
+{
+    let groups = fast_des::groups_table();
+    let table = fast_des::joined_table();
+    if !rounds_right(&groups, &table) {
+        return false;
+    }
+    if !mac_right() {
+        return false;
+    }
+    keys_right()
+}
