@@ -6,7 +6,7 @@ use mathlib.Core.List.{List, []}
 use Prim.Native.Nat.{ℕ, _+_}
 use native.Mathlib.Nat.{not-suc-le-zero}
 use native.Mathlib.Omega.{arith}
-use lib.Dec.{eqb, leb}
+use lib.Dec.{leb}
 use lib.ListN.{length, take}
 use Rattle.octets.specs.Bytes.{splice}
 use Rattle.octets.proofs.SpliceLaws.{splice-front}
@@ -29,22 +29,18 @@ use Rattle.session.specs.Rules.{reply, opened, Outcome, refuse, respond, header
 use Rattle.session.proofs.RuleLaws.{Passed, Says, verdict-says}
 use Rattle.runs.specs.Calls.{replyOf}
 use Rattle.runs.specs.Alike.{AlikeMessages}
-use Rattle.runs.specs.Tally.{Tag, responseOf, obeyed}
+use Rattle.runs.specs.Tally.{Tag, obeyed, tallied}
 use Rattle.runs.proofs.EntryLaws.{no-entries}
 use Rattle.runs.proofs.RequestLaws.{AlikeRequests, results-alike, work-alike}
 use Rattle.message.proofs.ReadableLaws.{requests-readable}
 use Rattle.runs.proofs.MessageLaws.{Reading, reading}
 use Rattle.runs.proofs.TwinLaws.{Twins, encode-twins, twins-bounded, total-edition, wellFormed, wellFormed'}
 
--- the tally after a reply to the messages m and m'
-abbrev replyTally : List ℕ → List ℕ → List ℕ → List Tag → List Tag
-replyTally m m' r ts = cond (eqb (responseOf r) 0) (obeyed (kind m) m m' r ts) ts
-
 pub record SameStep (L : Limits) (m m' : List ℕ) (ts : List Tag) (o o' : Outcome) : Type 0 where
   pub answer-is : o .answer ≡ o' .answer
   pub session-is : o .session ≡ o' .session
   pub output-is : o .output ≡ o' .output
-  pub twins : Twins L (replyTally m m' (replyOf (o .answer) (o .output)) ts) (o .store) (o' .store)
+  pub twins : Twins L (tallied m m' (replyOf (o .answer) (o .output)) ts) (o .store) (o' .store)
 
 module _ (L : Limits) (m m' : List ℕ) (ts : List Tag) where
   refuse-same : (n : ℕ) (e : Session) (s s' out : List ℕ) → Twins L ts s s' → SameStep L m m' ts (refuse n e s out) (refuse n e s' out)
@@ -52,7 +48,7 @@ module _ (L : Limits) (m m' : List ℕ) (ts : List Tag) where
   refuse-same n e s s' out v = record { answer-is = refl; session-is = refl; output-is = refl; twins = v }
 
   respond-same : (response : ℕ) (rs rs' : List ℕ) (then : State) (e : Session) (s s' out : List ℕ) → rs ≡ rs' → transaction m ≡ transaction m'
-      → Twins L (replyTally m m' (replyBytes (e .own) (e .peer) (transaction m) (e .next) response rs) ts) s s'
+      → Twins L (tallied m m' (replyBytes (e .own) (e .peer) (transaction m) (e .next) response rs) ts) s s'
       → SameStep L m m' ts (respond response rs then e m s out) (respond response rs' then e m' s' out)
   unfolding respond
   respond-same response rs rs' then e s s' out q t v =
@@ -64,7 +60,7 @@ module _ (L : Limits) (m m' : List ℕ) (ts : List Tag) where
         output-is =
             ap (λ (x : List ℕ). splice out 0 (replyBytes (e .own) (e .peer) (transaction m) (e .next) response x)) q
             ∙ ap (λ (x : ℕ). splice out 0 (replyBytes (e .own) (e .peer) x (e .next) response rs')) t;
-        twins = subst (λ (x : List ℕ). Twins L (replyTally m m' x ts) s s') (sym r) v;
+        twins = subst (λ (x : List ℕ). Twins L (tallied m m' x ts) s s') (sym r) v;
       }
 
   either-same : (b b' : Bool) (x y x' y' : Outcome) → b ≡ b' → SameStep L m m' ts x x' → SameStep L m m' ts y y' → SameStep L m m' ts (cond b x y) (cond b' x' y')

@@ -2,7 +2,7 @@
 -- Assumes nothing.
 use mathlib.Core.Path.{_≡_, refl, ap, _∙_, subst}
 use mathlib.Core.Bool.{true, false}
-use mathlib.Core.List.{List, _∷_}
+use mathlib.Core.List.{List, _∷_, map}
 use Prim.Native.Nat.{ℕ}
 use lib.ListN.{length}
 use Rattle.octets.proofs.BoolLaws.{clash}
@@ -18,7 +18,7 @@ use Rattle.session.specs.Sessions.{Beginning, begin, beginOutput}
 use Rattle.session.specs.Rules.{Answered, Outcome, receive}
 use Rattle.runs.specs.Calls.{Call, starts, brings, World, Seen, begun, received, searched, replyOf, seen, sessionOf, next, allSeen, final}
 use Rattle.runs.specs.Alike.{AlikeCalls, AlikeStores, no-calls, alike-begin, alike-message, alike-search, soundIn, heldIn}
-use Rattle.runs.specs.Tally.{Tag, tags, tallied, tally}
+use Rattle.runs.specs.Tally.{Tag, tags, tallyFrom, messageIn, replyIn}
 use Rattle.runs.specs.Secrecy.{Secrecy, RunsKeepSound}
 use Rattle.runs.proofs.TwinLaws.{Twins, alike-twins, twins-alike, twins-told, twins-equal, find-same, key-size}
 use Rattle.runs.proofs.StepLaws.{SameStep, receive-same}
@@ -26,11 +26,11 @@ use Rattle.runs.proofs.StepLaws.{SameStep, receive-same}
 record SameRun (L : Limits) (cs cs' : List Call) (ts : List Tag) (w w' : World) : Type 0 where
   seen-is : allSeen cs w ≡ allSeen cs' w'
   session-is : final cs w .session ≡ final cs' w' .session
-  twins : Twins L (tally cs cs' (allSeen cs w) ts) (final cs w .store) (final cs' w' .store)
+  twins : Twins L (tallyFrom ts (map messageIn cs) (map messageIn cs') (map replyIn (allSeen cs w))) (final cs w .store) (final cs' w' .store)
 
 run-same : {cs cs' : List Call} → AlikeCalls cs cs' → (L : Limits) (ts : List Tag) (w w' : World) → w .session ≡ w' .session → Twins L ts (w .store) (w' .store)
     → SameRun L cs cs' ts w w'
-unfolding allSeen final tally seen next tallied
+unfolding allSeen final tallyFrom seen next
 run-same no-calls L ts w w' q v = record { seen-is = refl; session-is = q; twins = v }
 run-same (alike-begin {cs = cs} {cs' = cs'} own peer start out r) L ts w w' q v =
     let c : Call = starts own peer start out in

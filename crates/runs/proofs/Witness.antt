@@ -22,7 +22,7 @@ use Rattle.message.specs.Body.{sizeAt, fieldsOk, requestAt, fieldsFrom, request
 use Rattle.session.specs.Rules.{respond, firstFailed, verdict, obey, inState, receiveIn, receive}
 use Rattle.runs.specs.Calls.{Call, brings, World, seen, next, allSeen, final}
 use Rattle.runs.specs.Alike.{inKeysFrom, inMessageKey, inRecordKey, inStoreKey, DifferAt, AlikeMessages, no-calls, alike-message, isSound, AlikeStores}
-use Rattle.runs.specs.Tally.{tags, without, tagged, allTagged, tallied, tally}
+use Rattle.runs.specs.Tally.{tags, without, tagged, allTagged, tallyFrom}
 use Rattle.runs.specs.Secrecy.{noneUnlike, tallyOf, Alike}
 use Rattle.runs.specs.Starred.{expecting, from2to1, kStruct}
 use Rattle.runs.proofs.Theorem.{secrecy}
@@ -156,7 +156,7 @@ alike-added = secrecy .runs (added 1) (added 7) (world 1) (world 7) refl alike-h
 -- both keys are unlike once the one is added, and none is left at the end
 tallies : (tallyOf (added 1) (added 7) (world 1) (world 7) ≡ record { issuer = 3; serial = 4; unlike = true } ∷ record { issuer = 3; serial = 5; unlike = true } ∷ [])
     × (tallyOf (deleted 1) (deleted 7) (world 1) (world 7) ≡ [])
-unfolding tags tally tallied allSeen seen next allTagged tagged without same receive receiveIn editionOf editionIn inState verdict firstFailed obey respond kindOf bodyOk fieldsFrom fieldsOk sizeAt requests requestsFrom requestAt work after result firstReason done placeWhere peersOf encode header keyRecord keyRecords words numbers entries entriesFrom sound allHold headerOk countsOk sumsOk sumBefore uniqueOk newKey parityOk allOdd unusedOk allBelow allZero part splice ones
+unfolding tags tallyFrom allSeen seen next allTagged tagged without same receive receiveIn editionOf editionIn inState verdict firstFailed obey respond kindOf bodyOk fieldsFrom fieldsOk sizeAt requests requestsFrom requestAt work after result firstReason done placeWhere peersOf encode header keyRecord keyRecords words numbers entries entriesFrom sound allHold headerOk countsOk sumsOk sumBefore uniqueOk newKey parityOk allOdd unusedOk allBelow allZero part splice ones
 tallies = (refl, refl)
 
 -- with both deleted, the stores are equal byte for byte

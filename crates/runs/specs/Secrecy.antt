@@ -1,13 +1,13 @@
 -- Demand 3: key bytes never show in a reply. One claim about two whole runs.
 -- Assumes nothing.
 use mathlib.Core.Path.{_≡_}
-use mathlib.Core.List.{List, [], _∷_}
+use mathlib.Core.List.{List, [], _∷_, map}
 use mathlib.Core.Bool.{Bool, true, false, _&&_, not}
 use Rattle.octets.specs.Bytes.{Bytes}
 use Rattle.store.specs.Store.{Entry}
 use Rattle.runs.specs.Calls.{Call, World, allSeen, final}
 use Rattle.runs.specs.Alike.{AlikeCalls, AlikeStores, heldIn, isSound}
-use Rattle.runs.specs.Tally.{Tag, tags, tally}
+use Rattle.runs.specs.Tally.{Tag, tally, messageIn, replyIn}
 
 -- both stores have the tally's issuers and serials in its order, and two KMACs of one place differ exactly where the tag says unlike
 pub data Told : List Tag → List Entry → List Entry → Type 0 where
@@ -23,7 +23,7 @@ noneUnlike (t ∷ ts) = not (t .unlike) && noneUnlike ts
 
 -- the tally after the list
 abbrev pub tallyOf : List Call → List Call → World → World → List Tag
-tallyOf cs cs' w w' = tally cs cs' (allSeen cs w) (tags (heldIn (w .store)) (heldIn (w' .store)))
+tallyOf cs cs' w w' = tally (w .store) (w' .store) (map messageIn cs) (map messageIn cs') (map replyIn (allSeen cs w))
 
 -- what is alike of two runs
 pub record Alike (cs cs' : List Call) (w w' : World) : Type 0 where

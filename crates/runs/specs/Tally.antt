@@ -14,6 +14,7 @@ use Rattle.message.specs.declared.Kind.the-variants.{Asks, SessionInit, Other}
 use Rattle.message.specs.Header.{kind}
 use Rattle.message.specs.Body.{requests}
 use Rattle.runs.specs.Calls.{Call, starts, brings, searches, Seen, begun, received, searched}
+use Rattle.runs.specs.Alike.{heldIn}
 
 -- a tag says unlike exactly where the two KMACs that it was made from differ
 pub record Tag : Type 0 where
@@ -73,24 +74,30 @@ obeyed (Asks EndOfUpdate) m m' reply ts = ts
 obeyed SessionInit m m' reply ts = ts
 obeyed Other m m' reply ts = ts
 
--- ---- a list of calls
+-- ---- both runs
 
-abbrev pub replyIn : Seen → List ℕ
-replyIn (begun a out) = []
-replyIn (received a reply out) = reply
-replyIn (searched a n) = []
+-- one message of each run, and the first run's reply to it; an empty reply changes nothing
+abbrev pub tallied : (message message' reply : List ℕ) → List Tag → List Tag
+tallied m m' reply ts = cond (eqb (responseOf reply) 0) (obeyed (kind m) m m' reply ts) ts
+
+unfoldable pub tallyFrom : List Tag → (messages messages' replies : List (List ℕ)) → List Tag
+tallyFrom ts [] ms' rs = ts
+tallyFrom ts (m ∷ ms) [] rs = ts
+tallyFrom ts (m ∷ ms) (m' ∷ ms') [] = ts
+tallyFrom ts (m ∷ ms) (m' ∷ ms') (r ∷ rs) = tallyFrom (tallied m m' r ts) ms ms' rs
+
+-- fed both starting stores, both runs' messages and the first run's replies, and nothing else
+abbrev pub tally : (store store' : List ℕ) → (messages messages' replies : List (List ℕ)) → List Tag
+tally s s' ms ms' rs = tallyFrom (tags (heldIn s) (heldIn s')) ms ms' rs
+
+-- ---- the message and the reply of a call; a call with none has an empty one at its place
 
 abbrev pub messageIn : Call → List ℕ
 messageIn (starts own peer start out) = []
 messageIn (brings m out) = m
 messageIn (searches peer t) = []
 
--- one call of each run, and what was seen of the first
-unfoldable pub tallied : Call → Call → Seen → List Tag → List Tag
-tallied c c' o ts = cond (eqb (responseOf (replyIn o)) 0) (obeyed (kind (messageIn c)) (messageIn c) (messageIn c') (replyIn o) ts) ts
-
-unfoldable pub tally : List Call → List Call → List Seen → List Tag → List Tag
-tally [] cs' os ts = ts
-tally (c ∷ cs) [] os ts = ts
-tally (c ∷ cs) (c' ∷ cs') [] ts = ts
-tally (c ∷ cs) (c' ∷ cs') (o ∷ os) ts = tally cs cs' os (tallied c c' o ts)
+abbrev pub replyIn : Seen → List ℕ
+replyIn (begun a out) = []
+replyIn (received a reply out) = reply
+replyIn (searched a n) = []
