@@ -7,5 +7,6 @@ pub mod StoreLaws
 pub mod TwinLaws
 pub mod StepLaws
 pub mod Theorem
+pub mod CodeRunLaws
 pub mod Starred
 pub mod Witness

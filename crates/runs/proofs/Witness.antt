@@ -19,11 +19,13 @@ use Rattle.store.specs.Search.{placeWhere}
 use Rattle.store.specs.Request.{firstReason, result, done, after, work}
 use Rattle.message.specs.Header.{kindOf}
 use Rattle.message.specs.Body.{sizeAt, fieldsOk, requestAt, fieldsFrom, requestsFrom, requests, bodyOk, wellFormedAdd}
-use Rattle.session.specs.Rules.{respond, firstFailed, verdict, obey, inState, receiveIn, receive}
+use Rattle.session.specs.declared.Received.the-variants.{Reply}
+use Rattle.session.specs.Rules.{reply, Outcome, respond, firstFailed, verdict, obey, inState, receiveIn, receive}
 use Rattle.runs.specs.Calls.{Call, brings, World, seen, next, allSeen, final}
 use Rattle.runs.specs.Alike.{inKeysFrom, inMessageKey, inRecordKey, inStoreKey, DifferAt, AlikeMessages, no-calls, alike-message, isSound, AlikeStores}
 use Rattle.runs.specs.Tally.{tags, without, tagged, allTagged, tallyFrom}
 use Rattle.runs.specs.Secrecy.{noneUnlike, tallyOf, Alike}
+use Rattle.runs.specs.CodeRuns.{by-message, CodeRun, code-ends, code-message}
 use Rattle.runs.specs.Starred.{expecting, from2to1, kStruct}
 use Rattle.runs.proofs.Theorem.{secrecy}
 
@@ -152,6 +154,18 @@ messages-differ q = let z : _≡_ {A = ℕ} 1 7 = ap (λ (s : List ℕ). getD s 
 
 alike-added : Alike (added 1) (added 7) (world 1) (world 7)
 alike-added = secrecy .runs (added 1) (added 7) (world 1) (world 7) refl alike-holds (alike-message (adding 1) (adding 7) out alike-adding no-calls)
+
+-- and runs of the code that meet the contracts: the one message, answered with one RESULT
+abbrev outcome : ℕ → Outcome
+outcome k = receive (expecting 5) (adding k) (holds k) out
+
+answers : (outcome 1 .answer ≡ reply 24) × (outcome 7 .answer ≡ reply 24)
+unfolding receive receiveIn editionOf editionIn inState verdict firstFailed obey respond kindOf bodyOk fieldsFrom fieldsOk sizeAt requests requestsFrom requestAt work peersOf encode header keyRecord keyRecords words sound allHold headerOk countsOk sumsOk sumBefore uniqueOk newKey parityOk allOdd unusedOk allBelow allZero part ones
+answers = (refl, refl)
+
+code-added : (k : ℕ) → outcome k .answer ≡ reply 24
+    → CodeRun (added k) (world k) (by-message (Reply 24) (outcome k .output) ∷ []) (record { session = outcome k .session; store = outcome k .store })
+code-added k q = code-message (record { answer-is = sym q; session-is = refl; store-is = refl; output-is = refl }) code-ends
 
 -- both keys are unlike once the one is added, and none is left at the end
 tallies : (tallyOf (added 1) (added 7) (world 1) (world 7) ≡ record { issuer = 3; serial = 4; unlike = true } ∷ record { issuer = 3; serial = 5; unlike = true } ∷ [])

@@ -2,4 +2,5 @@ pub mod Calls
 pub mod Alike
 pub mod Tally
 pub mod Secrecy
+pub mod CodeRuns
 pub mod Starred
