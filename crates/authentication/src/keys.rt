@@ -10,13 +10,13 @@ use crate::cbc::schedule_at;
 use fast_des::Three;
 
 // The left halves of two words, and the right halves.
-fn lefts(a: u64, b: u64) -> u64
+pub fn lefts(a: u64, b: u64) -> u64
     ensures { λ r. ⌜ bits 64 r ≡ take 32 (bits 64 a) ++ take 32 (bits 64 b) ⌝ }
 {
     ((a >> 32) << 32) | (b >> 32)
 }
 
-fn rights(a: u64, b: u64) -> u64
+pub fn rights(a: u64, b: u64) -> u64
     ensures { λ r. ⌜ bits 64 r ≡ drop 32 (bits 64 a) ++ drop 32 (bits 64 b) ⌝ }
 {
     ((a & 0xffff_ffff) << 32) | (b & 0xffff_ffff)

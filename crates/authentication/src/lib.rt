@@ -17,7 +17,7 @@ use refusal::Refusal;
 
 mod cbc;
 pub mod keys;
-mod string;
+pub mod string;
 mod unit;
 
 // ---- session keys

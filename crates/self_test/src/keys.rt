@@ -4,41 +4,12 @@ ghost use mathlib.Core.Bool.{true};
 ghost use mathlib.Core.List.{map};
 ghost use lib.ListN.{length};
 ghost use Rattle.authentication.specs.Keys.{odd};
+ghost use Rattle.self_test.specs.Plain.{Formulas};
+use crate::words::encipher;
 use crate::words::triple;
-
-// The KMAC, as bytes and as words.
-const KMAC: [u8; 24] = [
-    0x01,
-    0x23,
-    0x45,
-    0x67,
-    0x89,
-    0xab,
-    0xcd,
-    0xef,
-    0x23,
-    0x45,
-    0x67,
-    0x89,
-    0xab,
-    0xcd,
-    0xef,
-    0x01,
-    0x45,
-    0x67,
-    0x89,
-    0xab,
-    0xcd,
-    0xef,
-    0x01,
-    0x23,
-];
-
-const K1: u64 = 0x0123_4567_89ab_cdef;
-
-const K2: u64 = 0x2345_6789_abcd_ef01;
-
-const K3: u64 = 0x4567_89ab_cdef_0123;
+use authentication::keys::join;
+use authentication::keys::lefts;
+use authentication::keys::rights;
 
 // Whether 24 bytes are those of the formulas but for the parity bit, and have an odd number of ones.
 fn same_but_parity(key: &[u8], plain: &[u8]) -> bool
@@ -58,19 +29,43 @@ fn same_but_parity(key: &[u8], plain: &[u8]) -> bool
     true
 }
 
+// The three formulas, x being the left halves and y the right, without parity.
+fn formulas(k1: u64, k2: u64, k3: u64, x: u64, y: u64) -> [u8; 24]
+    ensures { λ r. ⌜ Formulas k1 k2 k3 x y r ⌝ }
+{
+    join(
+        triple(k1, k2, k3, x),
+        triple(k1, k2, k3, y),
+        triple(k3, k2, k1, x),
+    )
+}
+
+// The session keys of the KMAC k1, k2, k3 and the random numbers a and b.
+fn keys_right_of(k1: u64, k2: u64, k3: u64, a: u64, b: u64) -> bool
+    ensures { λ r. ⌜ r ≡ true ⌝ }
+{
+    let kmac = join(k1, k2, k3);
+    let made = authentication::session_keys(&kmac, des::store(a), des::store(b));
+    let key = made.key;
+    let plain = formulas(k1, k2, k3, lefts(a, b), rights(a, b));
+    same_but_parity(&key, &plain)
+}
+
+// Three of them, from numbers that DES makes: every entry of both tables is looked up.
 pub fn keys_right() -> bool
     ensures { λ r. ⌜ r ≡ true ⌝ }
 {
-    let ra: [u8; 8] = [0xa0, 0xa1, 0xa2, 0xa3, 0xa4, 0xa5, 0xa6, 0xa7];
-    let rb: [u8; 8] = [0xb0, 0xb1, 0xb2, 0xb3, 0xb4, 0xb5, 0xb6, 0xb7];
-    let made = authentication::session_keys(&KMAC, ra, rb);
-    let key = made.key;
-    let left = 0xa0a1_a2a3_b0b1_b2b3;
-    let right = 0xa4a5_a6a7_b4b5_b6b7;
-    let plain = authentication::keys::join(
-        triple(K1, K2, K3, left),
-        triple(K1, K2, K3, right),
-        triple(K3, K2, K1, left),
-    );
-    same_but_parity(&key, &plain)
+    let mut x: u64 = 0x0123_4567_89ab_cdef;
+    let mut n: usize = 0;
+    while n < 3 {
+        let k1 = encipher(x, x);
+        let k2 = encipher(x, k1);
+        let k3 = encipher(x, k2);
+        if !keys_right_of(k1, k2, k3, x, k3) {
+            return false;
+        }
+        x = k3;
+        n += 1;
+    }
+    true
 }

@@ -1,57 +1,28 @@
-// The MAC of three blocks: Annex B of SUBSET-037-2, and a message's MAC against the printed tables.
+// The MAC: Annex B of SUBSET-037-2, and a message's MAC against the printed tables.
 ghost use mathlib.Core.Path.{_≡_};
 ghost use mathlib.Core.Bool.{true};
 ghost use Rattle.fast_des.specs.Joined.{joined, pc2Groups};
-ghost use Rattle.self_test.specs.Chain.{Chains};
+ghost use Prim.Native.Nat.{_+_, _/_};
+ghost use lib.ListN.{length};
+ghost use Rattle.des.specs.Bits.{bits};
+ghost use Rattle.authentication.specs.Mac.{chain, macString};
+ghost use Rattle.self_test.specs.Plain.{Chains, Macs};
+use crate::words::decipher;
 use crate::words::encipher;
 use crate::words::fast_decipher;
 use crate::words::fast_encipher;
-use crate::words::triple;
+use authentication::keys::join;
+use authentication::string::blocks;
+use authentication::string::string_word;
 
-// The keys of Annex B, as bytes and as words.
-const KEY: [u8; 24] = [
-    0x01,
-    0x02,
-    0x04,
-    0x07,
-    0x08,
-    0x0b,
-    0x0d,
-    0x0e,
-    0x10,
-    0x13,
-    0x15,
-    0x16,
-    0x19,
-    0x1a,
-    0x1c,
-    0x1f,
-    0x20,
-    0x23,
-    0x25,
-    0x26,
-    0x29,
-    0x2a,
-    0x2c,
-    0x2f,
-];
-
+// The keys of Annex B.
 const K1: u64 = 0x0102_0407_080b_0d0e;
 
 const K2: u64 = 0x1013_1516_191a_1c1f;
 
 const K3: u64 = 0x2023_2526_292a_2c2f;
 
-// Chained from zero under k1, then k2 and k3, by the printed tables.
-fn cbc_mac(k1: u64, k2: u64, k3: u64, x: u64, y: u64, z: u64) -> u64
-    ensures { λ r. ⌜ Chains k1 k2 k3 x y z r ⌝ }
-{
-    let h = encipher(k1, 0 ^ x);
-    let i = encipher(k1, h ^ y);
-    triple(k1, k2, k3, i ^ z)
-}
-
-// The same by the joined rounds.
+// Three blocks chained from zero under k1, then k2 and k3, by the joined rounds.
 fn fast_cbc_mac(
     k1: u64,
     k2: u64,
@@ -83,15 +54,56 @@ pub fn annex_b(groups: &[u64], table: &[u64]) -> bool
     fast_cbc_mac(K1, K2, K3, x, y, z, groups, table) == 0x361d_431e_d396_c175
 }
 
-// A message's MAC, as the module makes it, against the printed tables: length 17, destination 123456, 14 bytes, and padding of five.
+// The chain over the blocks of a message's string, by the printed tables.
+fn plain_chain(k1: u64, destination: [u8; 3], m: &[u8]) -> u64
+    ensures { λ r. ⌜ bits 64 r ≡ chain (bits 64 k1) (macString destination (now (m .entry))) ((length (now (m .entry)) + 12) / 8) ⌝ }
+{
+    let n = blocks(m);
+    let mut h: u64 = 0;
+    let mut k = 0;
+    while k < n {
+        h = encipher(k1, h ^ string_word(k, destination, m));
+        k += 1;
+    }
+    h
+}
+
+// The MAC of a message by the printed tables.
+fn plain_mac(k1: u64, k2: u64, k3: u64, destination: [u8; 3], m: &[u8]) -> u64
+    ensures { λ r. ⌜ Macs k1 k2 k3 destination (now (m .entry)) r ⌝ }
+{
+    let h = plain_chain(k1, destination, m);
+    encipher(k3, decipher(k2, h))
+}
+
+// Bytes of all values.
+fn fill(m: &mut [u8]) {
+    let mut i = 0;
+    while i < m.len() {
+        m[i] = (i % 251) as u8;
+        i += 1;
+    }
+}
+
+// A long message's MAC, as the module makes it, against the printed tables. Key and length are such that every entry of both tables is looked up.
 pub fn mac_right() -> bool
     ensures { λ r. ⌜ r ≡ true ⌝ }
 {
+    let mut m = [0u8; 512];
+    fill(&mut m);
     let destination: [u8; 3] = [0x12, 0x34, 0x56];
-    let message: [u8; 14] = [0x0a, 1, 2, 3, 4, 5, 6, 7, 8, 9, 10, 11, 12, 13];
-    let made = authentication::mac(KEY, destination, &message);
-    let x = 0x0011_1234_560a_0102;
-    let y = 0x0304_0506_0708_090a;
-    let z = 0x0b0c_0d00_0000_0000;
-    des::load(made) == cbc_mac(K1, K2, K3, x, y, z)
+    let key = join(
+        0x4561_57bf_b6ab_fbe5,
+        0x9d54_6497_bf46_cd7a,
+        0xf8ec_ae25_b99b_02f8,
+    );
+    let made = authentication::mac(key, destination, &m);
+    let plain = plain_mac(
+        0x4561_57bf_b6ab_fbe5,
+        0x9d54_6497_bf46_cd7a,
+        0xf8ec_ae25_b99b_02f8,
+        destination,
+        &m,
+    );
+    des::load(made) == plain
 }

@@ -10,7 +10,7 @@ use Rattle.octets.proofs.NumberLaws.{bytes-one}
 use Rattle.des.specs.Bits.{bits, bitsOfBytes}
 use Rattle.authentication.specs.Mac.{block, padded}
 use Rattle.authentication.proofs.Examples.{key, string, annex-b}
-use Rattle.self_test.specs.Chain.{Blocks}
+use Rattle.self_test.specs.Plain.{Blocks}
 use Rattle.self_test.proofs.WordLaws.{key-words}
 use native.Mathlib.Omega.{arith}
 use borrow.Author.Needs.{needs}
