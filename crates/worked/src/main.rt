@@ -1,108 +1,154 @@
-// The worked numbers of document 01 that concern the store, a line for each case. Every store is built through the requests.
+// The worked numbers of document 01 that concern sessions and the store, a line for each case. Every store is built through messages.
+mod centre;
 mod print;
-mod request;
+mod wire;
 
+use centre::ISSUER;
+use centre::PEER;
+use centre::STORE;
+use centre::add;
+use centre::add_keys;
+use centre::delete;
+use centre::delete_all;
+use centre::entities;
+use centre::fresh;
+use centre::key;
+use centre::opened;
+use centre::validity;
 use print::counts;
 use print::found;
+use print::kmac;
 use print::nonzero;
 use print::records;
-use print::result;
-use request::ISSUER;
-use request::OWN;
-use request::add;
-use request::add_keys;
-use request::delete;
-use request::entities;
-use request::message;
-use request::validity;
-
-const PEER: u32 = 0x11223344;
+use wire::Key;
+use wire::OWN;
 
 const OTHER: u32 = 0x55667788;
 
-fn first_keys(s: &mut [u8], m: &[u8]) {
-    store::empty(s);
-    result(b"empty store, delete: ", delete(s, ISSUER, 1));
-    result(b"one key: ", add(s, m, OWN, 1, 5, 9, 1));
-    result(b"the same key: ", add(s, m, OWN, 1, 5, 9, 1));
+// A word of the other's KMAC, of odd parity too.
+const OTHER_KMAC: u32 = 0x02020202;
+
+const STRANGER: u32 = 8;
+
+// The length of a message with no body.
+const LENGTH: u32 = 20;
+
+// The sequence number that zero follows.
+const LAST: u16 = 65535;
+
+// ---- limits
+
+fn first_keys(s: &mut [u8; STORE]) {
+    fresh(s);
+    delete(b"empty store, delete:", s, ISSUER, 1);
+    add(b"one key:", s, 1, 1);
+    add(b"the same key:", s, 1, 1);
+    add_keys(b"one key twice in a message:", s, key(2, 1), 2, 0);
 }
 
-fn all_keys(s: &mut [u8], m: &[u8]) {
-    store::empty(s);
-    result(b"64 keys: ", add_keys(s, m, 64));
-    result(b"64 keys, add: ", add(s, m, OWN, 65, 5, 9, 1));
-    result(b"64 keys, add a held one: ", add(s, m, OWN, 5, 5, 9, 1));
+fn all_keys(s: &mut [u8; STORE]) {
+    fresh(s);
+    add_keys(b"64 keys:", s, key(1, 1), 64, 1);
+    add(b"64 keys, add:", s, 65, 1);
+    add(b"64 keys, add a held one:", s, 5, 1);
 }
 
-fn tenth_key(s: &mut [u8], m: &[u8]) {
-    result(b"delete the tenth: ", delete(s, ISSUER, 10));
-    result(b"add: ", add(s, m, OWN, 65, 5, 9, 1));
+fn tenth_key(s: &mut [u8; STORE]) {
+    delete(b"delete the tenth:", s, ISSUER, 10);
+    add(b"add:", s, 65, 1);
     records(s);
 }
 
-fn more_peers(s: &mut [u8], m: &[u8]) {
-    store::empty(s);
-    result(b"253 peers: ", add(s, m, OWN, 1, 5, 9, 253));
-    result(b"253 peers, add with 4: ", add(s, m, OWN, 2, 5, 9, 4));
-    result(b"253 peers, add with 3: ", add(s, m, OWN, 2, 5, 9, 3));
+fn more_peers(s: &mut [u8; STORE]) {
+    fresh(s);
+    add(b"253 peers:", s, 1, 253);
+    add(b"253 peers, add with 4:", s, 2, 4);
+    add(b"253 peers, add with 3:", s, 2, 3);
     counts(s);
 }
 
-fn all_peers(s: &mut [u8], m: &[u8]) {
-    store::empty(s);
-    result(b"246 peers: ", add(s, m, OWN, 1, 5, 9, 246));
-    result(b"10 peers: ", add(s, m, OWN, 2, 5, 9, 10));
-    result(b"256 peers, 10 by 10: ", entities(s, m, 2, 10));
-    result(b"256 peers, 10 by 11: ", entities(s, m, 2, 11));
+fn all_peers(s: &mut [u8; STORE]) {
+    fresh(s);
+    add(b"246 peers:", s, 1, 246);
+    add(b"10 peers:", s, 2, 10);
+    entities(b"256 peers, 10 by 10:", s, 2, PEER, 10);
+    entities(b"256 peers, 10 by 11:", s, 2, PEER, 11);
     counts(s);
 }
 
-fn bad_keys(s: &mut [u8], bad: &[u8]) {
-    store::empty(s);
-    result(b"byte 00: ", add(s, bad, OWN, 1, 5, 9, 1));
-    result(b"wrong recipient and byte 00: ", add(s, bad, 8, 1, 5, 9, 1));
+// ---- keys and searches
+
+// The key of serial 1 with KMAC bytes 00.
+fn bad_key(recipient: u32) -> Key {
+    let mut bad = key(1, 1);
+    bad.recipient = recipient;
+    bad.kmac = 0;
+    bad
+}
+
+fn bad_keys(s: &mut [u8; STORE]) {
+    fresh(s);
+    add_keys(b"byte 00:", s, bad_key(OWN), 1, 0);
+    add_keys(b"wrong recipient and byte 00:", s, bad_key(STRANGER), 1, 0);
     counts(s);
 }
 
-fn moments(s: &mut [u8], m: &[u8]) {
-    result(b"from 5 to 9: ", add(s, m, OWN, 1, 5, 9, 1));
-    found(b"T is 4: ", s, PEER, 4);
-    found(b"T is start: ", s, PEER, 5);
-    found(b"T is 8: ", s, PEER, 8);
-    found(b"T is end: ", s, PEER, 9);
+fn moments_and_peers(s: &[u8]) {
+    found(b"T is 4:", s, PEER, 4);
+    found(b"T is start:", s, PEER, 5);
+    found(b"T is 8:", s, PEER, 8);
+    found(b"T is end:", s, PEER, 9);
+    kmac(b"T is end, the KMAC:", s, PEER, 9);
+    found(b"last byte of the peer:", s, 0x11223345, 5);
+    found(b"first byte of the peer:", s, 0x12223344, 5);
 }
 
-fn near_keys(s: &mut [u8]) {
-    found(b"last byte of the peer: ", s, 0x11223345, 5);
-    found(b"first byte of the peer: ", s, 0x12223344, 5);
-    result(b"last byte of the serial: ", delete(s, ISSUER, 2));
-    result(b"first byte of the issuer: ", delete(s, 0x02020304, 1));
+fn one_key(s: &mut [u8; STORE]) {
+    add(b"from 5 to 9:", s, 1, 1);
+    moments_and_peers(s);
+    delete(b"last byte of the serial:", s, ISSUER, 2);
+    delete(b"first byte of the issuer:", s, 0x02020304, 1);
 }
 
-fn empty_period(s: &mut [u8]) {
-    result(b"from 5 to 5: ", validity(s, 1, 5, 5));
-    found(b"start is end: ", s, PEER, 5);
+fn empty_period(s: &mut [u8; STORE]) {
+    validity(b"from 5 to 5:", s, 1, 5, 5);
+    found(b"start is end:", s, PEER, 5);
 }
 
-fn other_peers(s: &mut [u8], m: &[u8], other: &[u8]) {
-    result(b"a second for the peer: ", add(s, m, OWN, 2, 5, 9, 3));
-    result(b"a third for another: ", add(s, other, OWN, 3, 5, 9, 1));
-    found(b"the peer: ", s, PEER, 5);
-    found(b"the other: ", s, OTHER, 5);
-    result(
-        b"the second for two of the other: ",
-        entities(s, other, 2, 2),
-    );
-    found(b"the other now: ", s, OTHER, 5);
+fn key_for_other() -> Key {
+    let mut third = key(3, 1);
+    third.kmac = OTHER_KMAC;
+    third.peer = OTHER;
+    third
+}
+
+fn both_peers(s: &[u8]) {
+    found(b"the peer:", s, PEER, 5);
+    found(b"the other:", s, OTHER, 5);
+    kmac(b"the other's KMAC:", s, OTHER, 5);
+}
+
+fn three_keys(s: &mut [u8; STORE]) {
+    add(b"a second for the peer:", s, 2, 3);
+    add_keys(b"a third for another:", s, key_for_other(), 1, 0);
+    both_peers(s);
+}
+
+fn replaced_peers(s: &mut [u8; STORE]) {
+    entities(b"the second for two of the other:", s, 2, OTHER, 2);
+    found(b"the other now:", s, OTHER, 5);
     counts(s);
 }
 
-fn removals(s: &mut [u8]) {
-    result(b"delete the first: ", delete(s, ISSUER, 1));
+fn first_removed(s: &mut [u8; STORE]) {
+    delete(b"delete the first:", s, ISSUER, 1);
     records(s);
-    found(b"the other then: ", s, OTHER, 5);
-    result(b"delete the third: ", delete(s, ISSUER, 3));
-    result(b"delete the second: ", delete(s, ISSUER, 2));
+    found(b"the other then:", s, OTHER, 5);
+}
+
+fn all_removed(s: &mut [u8; STORE]) {
+    delete(b"delete the third:", s, ISSUER, 3);
+    delete(b"delete the second:", s, ISSUER, 2);
     nonzero(s);
 }
 
@@ -110,43 +156,70 @@ fn refusals(s: &mut [u8]) {
     if s.len() < 2 {
         return;
     }
-    found(b"short store: ", &s[1..], PEER, 5);
+    found(b"short store:", &s[1..], PEER, 5);
     s[1] = 2;
-    found(b"unsound store: ", s, PEER, 5);
+    found(b"unsound store:", s, PEER, 5);
 }
 
-fn delete_all(s: &mut [u8]) {
-    store::empty(s);
-    found(b"delete all: ", s, PEER, 5);
+// ---- sessions
+
+fn all_deleted(s: &mut [u8; STORE]) {
+    let session = opened(0, s);
+    delete_all(b"delete all:", session, LENGTH, OWN, 1, s);
+    found(b"delete all, the peer:", s, PEER, 5);
 }
 
-fn limits(s: &mut [u8], m: &[u8]) {
-    first_keys(s, m);
-    all_keys(s, m);
-    tenth_key(s, m);
-    more_peers(s, m);
-    all_peers(s, m);
+fn last_number(s: &mut [u8; STORE]) {
+    let session = opened(LAST - 1, s);
+    let next = delete_all(
+        b"expected 65535, received 65535:",
+        session,
+        LENGTH,
+        OWN,
+        LAST,
+        s,
+    );
+    delete_all(b"then received 0:", next, LENGTH, OWN, 0, s);
 }
 
-fn searches(s: &mut [u8], m: &[u8], bad: &[u8], other: &[u8]) {
-    bad_keys(s, bad);
-    moments(s, m);
-    near_keys(s);
+fn wrong_header(s: &mut [u8; STORE]) {
+    let session = opened(0, s);
+    delete_all(
+        b"length and receiver both wrong:",
+        session,
+        LENGTH + 1,
+        STRANGER,
+        1,
+        s,
+    );
+}
+
+// ---- all cases, in order
+
+fn limits(s: &mut [u8; STORE]) {
+    first_keys(s);
+    all_keys(s);
+    tenth_key(s);
+    more_peers(s);
+    all_peers(s);
+}
+
+fn searches(s: &mut [u8; STORE]) {
+    bad_keys(s);
+    one_key(s);
     empty_period(s);
-    other_peers(s, m, other);
-    removals(s);
+    three_keys(s);
+    replaced_peers(s);
+    first_removed(s);
+    all_removed(s);
     refusals(s);
-    delete_all(s);
 }
 
 fn main() {
-    let mut s = [0u8; 3852];
-    let mut m = [0u8; 1048];
-    let mut bad = [0u8; 28];
-    let mut other = [0u8; 32];
-    message(&mut m, 1, PEER);
-    message(&mut bad, 0, PEER);
-    message(&mut other, 1, OTHER);
-    limits(&mut s, &m);
-    searches(&mut s, &m, &bad, &other);
+    let mut s = [0u8; STORE];
+    limits(&mut s);
+    searches(&mut s);
+    all_deleted(&mut s);
+    last_number(&mut s);
+    wrong_header(&mut s);
 }

@@ -1,24 +1,85 @@
 // What the cases print: a line each.
+use crate::centre::STORE;
+use crate::wire::front;
 use libc::STDOUT_FILENO;
+use message::written::HEAD;
+use octets::get16_at;
 use octets::get32_at;
+use refusal::Refusal;
+use session::Received;
 use store::Found;
 use store::KEYS_AT;
 use store::RECORD;
 use store::field::number_at;
+
+// Where RESPONSE and REQ-NUM stand in a reply, and the RESPONSE of a command that was worked (000, 5.3.15).
+const RESPONSE_AT: usize = 20;
+
+const REQ_NUM_AT: usize = 21;
+
+const DONE: u8 = 0;
 
 fn text(b: &[u8]) {
     io::write_all(STDOUT_FILENO, b);
 }
 
 fn number(x: u64) {
+    text(b" ");
     io::print_decimal(STDOUT_FILENO, x);
 }
 
-// The name, and a RESULT.
-pub fn result(name: &[u8], r: u8) {
+fn byte(x: u8) {
+    number(x as u64);
+}
+
+// The bytes from index i on.
+fn bytes(s: &[u8], i: usize) {
+    let mut k = i;
+    while k < s.len() {
+        byte(s[k]);
+        k += 1;
+    }
+}
+
+// ---- replies
+
+fn response(reply: &[u8]) {
+    if reply.len() < HEAD {
+        return;
+    }
+    text(b" RESPONSE");
+    byte(reply[RESPONSE_AT]);
+    text(b", REQ-NUM");
+    number(get16_at(reply, REQ_NUM_AT) as u64);
+}
+
+// The RESULTs; where there is none, or RESPONSE is not 0, RESPONSE and REQ-NUM.
+fn replied(reply: &[u8]) {
+    if reply.len() <= HEAD {
+        response(reply);
+        return;
+    }
+    if reply[RESPONSE_AT] != DONE {
+        response(reply);
+        return;
+    }
+    bytes(reply, HEAD);
+}
+
+// The name, and what the reply says; nothing where there is no reply.
+pub fn answered(name: &[u8], answer: Received, out: &[u8]) {
     text(name);
-    number(r as u64);
+    if let Received::Reply(n) = answer {
+        replied(front(out, n));
+    }
     text(b"\n");
+}
+
+// ---- the store
+
+fn refused(h: Refusal) {
+    text(b" H");
+    io::print_decimal(STDOUT_FILENO, refusal::house_number(h) as u64);
 }
 
 // The name, and the place that a search finds, or H and the refusal's number.
@@ -26,22 +87,22 @@ pub fn found(name: &[u8], s: &[u8], peer: u32, t: u32) {
     text(name);
     match store::find(s, peer, t) {
         Found::At(place) => number(place as u64),
-        Found::Refused(h) => {
-            text(b"H");
-            number(refusal::house_number(h) as u64);
-        }
+        Found::Refused(h) => refused(h),
     }
     text(b"\n");
 }
 
+// The name, and the KMAC that a search hands back.
+pub fn kmac(name: &[u8], s: &[u8], peer: u32, t: u32) {
+    text(name);
+    bytes(store::key(s, peer, t), 0);
+    text(b"\n");
+}
+
 // Key count and peer count.
-pub fn counts(s: &[u8]) {
-    if s.len() < KEYS_AT {
-        return;
-    }
-    text(b"counts: ");
+pub fn counts(s: &[u8; STORE]) {
+    text(b"counts:");
     number(number_at(s, 2) as u64);
-    text(b" ");
     number(number_at(s, 6) as u64);
     text(b"\n");
 }
@@ -51,7 +112,6 @@ fn serial(s: &[u8], i: usize) {
     if i < 65536 {
         let at = KEYS_AT + RECORD * i;
         if at + 8 <= s.len() {
-            text(b" ");
             number(get32_at(s, at + 4) as u64);
         }
     }
@@ -67,10 +127,7 @@ fn serials(s: &[u8], n: usize) {
 }
 
 // The serials in store order.
-pub fn records(s: &[u8]) {
-    if s.len() < KEYS_AT {
-        return;
-    }
+pub fn records(s: &[u8; STORE]) {
     text(b"records:");
     serials(s, number_at(s, 2));
     text(b"\n");
@@ -89,8 +146,8 @@ fn count(s: &[u8]) -> usize {
     n
 }
 
-pub fn nonzero(s: &[u8]) {
-    text(b"bytes not zero: ");
+pub fn nonzero(s: &[u8; STORE]) {
+    text(b"bytes not zero:");
     number(count(s) as u64);
     text(b"\n");
 }

@@ -1,14 +1,28 @@
-//! Prints the worked numbers of the store (01) as WORKED.md asks, for comparison line by line.
+//! Prints the worked numbers of sessions and the store (01) as WORKED.md asks, for comparison line by line.
 
-use reference::store::{decode, encode, find, work, Entry, KeyIdentifier, Request, LENGTH};
-use reference::Identity;
+use reference::message::{assemble, kind, response, session_init, HEADER_LENGTH};
+use reference::session::{begin, receive, Answer, Session};
+use reference::store::{decode, encode, find, Entry, KeyIdentifier, LENGTH};
+use reference::{Identity, OUTPUT_LENGTH};
 
 const OWN: Identity = [0, 0, 0, 7];
+const CENTRE: Identity = [0, 0, 0, 6];
+const STRANGER: Identity = [0, 0, 0, 8];
 const ISSUER: Identity = [1, 2, 3, 4];
 const PEER: Identity = [0x11, 0x22, 0x33, 0x44];
 const OTHER: Identity = [0x55, 0x66, 0x77, 0x88];
 
-/// Byte of the edition's low half in the header.
+/// Any starting number of the module and any transaction number of the centre would do.
+const OWN_START: u16 = 9;
+const TRANSACTION: u32 = 0x89ab_cdef;
+/// The number of the centre's session init; a command's is the next.
+const CENTRE_START: u16 = 40;
+
+/// Where the low byte of the length and the receiver stand in a header (000, 5.3.3).
+const LENGTH_LOW: usize = 3;
+const RECEIVER_AT: usize = 5;
+
+/// Byte of the edition's low half in the store's header.
 const EDITION_LOW: usize = 1;
 
 /// All cases work on the one buffer, each on what the one before left.
@@ -25,6 +39,9 @@ fn main() {
     several_records(store);
     all_deleted(store);
     refused_searches(store);
+    delete_all(store);
+    last_number(store);
+    wrong_header(store);
 }
 
 fn one_key(store: &mut [u8]) {
@@ -32,14 +49,16 @@ fn one_key(store: &mut [u8]) {
     request(store, "empty store, delete", delete(1));
     request(store, "one key", add(1, 1));
     request(store, "the same key", add(1, 1));
+    let twice = [k_struct(OWN, &entry(2, 1)), k_struct(OWN, &entry(2, 1))];
+    command(store, "one key twice in a message", kind::ADD_KEYS, &twice);
 }
 
 fn full_of_keys(store: &mut [u8]) {
     clear(store);
-    let failure = (1..=64)
-        .map(|serial| worked(store, add(serial, 1)))
-        .find(|&result| result != 0);
-    println!("64 keys: {}", failure.unwrap_or(0));
+    let keys: Vec<_> = (1..=64)
+        .map(|serial| k_struct(OWN, &entry(serial, 1)))
+        .collect();
+    command(store, "64 keys", kind::ADD_KEYS, &keys);
     request(store, "64 keys, add", add(65, 1));
     request(store, "64 keys, add a held one", add(5, 1));
     request(store, "delete the tenth", delete(10));
@@ -70,13 +89,9 @@ fn bad_adds(store: &mut [u8]) {
         kmac: [0; 24],
         ..entry(1, 1)
     };
-    request(store, "byte 00", add_for(OWN, bad.clone()));
-    let recipient = [0, 0, 0, 8];
-    request(
-        store,
-        "wrong recipient and byte 00",
-        add_for(recipient, bad),
-    );
+    request(store, "byte 00", add_for(OWN, &bad));
+    let elsewhere = add_for(STRANGER, &bad);
+    request(store, "wrong recipient and byte 00", elsewhere);
     counts(store);
 }
 
@@ -86,6 +101,7 @@ fn moments(store: &mut [u8]) {
     search(store, "T is start", PEER, 5);
     search(store, "T is 8", PEER, 8);
     search(store, "T is end", PEER, 9);
+    kmac(store, "T is end, the KMAC", PEER, 9);
 }
 
 /// Identities that differ from the right ones in one byte.
@@ -99,25 +115,26 @@ fn near_misses(store: &mut [u8]) {
         issuer: [2, 2, 3, 4],
         ..identifier(1)
     };
-    request(store, "first byte of the issuer", Request::Delete(key));
+    let other_issuer = (kind::DELETE_KEYS, k_identifier(key));
+    request(store, "first byte of the issuer", other_issuer);
 }
 
 fn empty_period(store: &mut [u8]) {
-    let (key, start, end) = (identifier(1), 5, 5);
-    let validity = Request::UpdateValidity { key, start, end };
-    request(store, "from 5 to 5", validity);
+    request(store, "from 5 to 5", validity(1, 5, 5));
     search(store, "start is end", PEER, 5);
 }
 
 fn several_records(store: &mut [u8]) {
     request(store, "a second for the peer", add(2, 3));
     let for_other = Entry {
+        kmac: [2; 24],
         peers: vec![OTHER],
         ..entry(3, 1)
     };
-    request(store, "a third for another", add_for(OWN, for_other));
+    request(store, "a third for another", add_for(OWN, &for_other));
     search(store, "the peer", PEER, 5);
     search(store, "the other", OTHER, 5);
+    kmac(store, "the other's KMAC", OTHER, 5);
     let two_of_other = entities(2, OTHER, 2);
     request(store, "the second for two of the other", two_of_other);
     search(store, "the other now", OTHER, 5);
@@ -138,8 +155,29 @@ fn refused_searches(store: &mut [u8]) {
     search(&store[1..], "short store", PEER, 5);
     store[EDITION_LOW] = 2;
     search(store, "unsound store", PEER, 5);
-    clear(store);
-    search(store, "delete all", PEER, 5);
+}
+
+fn delete_all(store: &mut [u8]) {
+    let session = opened(CENTRE_START, store);
+    let message = message(CENTRE_START + 1, kind::DELETE_ALL_KEYS, &[]);
+    deliver(session, store, "delete all", &message);
+    search(store, "delete all, the peer", PEER, 5);
+}
+
+fn last_number(store: &mut [u8]) {
+    let session = opened(65534, store);
+    let last = message(65535, kind::DELETE_ALL_KEYS, &[]);
+    let session = deliver(session, store, "expected 65535, received 65535", &last);
+    let zero = message(0, kind::DELETE_ALL_KEYS, &[]);
+    deliver(session, store, "then received 0", &zero);
+}
+
+fn wrong_header(store: &mut [u8]) {
+    let session = opened(CENTRE_START, store);
+    let mut wrong = message(CENTRE_START + 1, kind::DELETE_ALL_KEYS, &[]);
+    wrong[LENGTH_LOW] += 1;
+    wrong[RECEIVER_AT..][..4].copy_from_slice(&STRANGER);
+    deliver(session, store, "length and receiver both wrong", &wrong);
 }
 
 fn identifier(serial: u32) -> KeyIdentifier {
@@ -160,24 +198,63 @@ fn entry(serial: u32, peers: usize) -> Entry {
     }
 }
 
-fn add(serial: u32, peers: usize) -> Request {
-    add_for(OWN, entry(serial, peers))
+/// A message type with one request for it.
+type Command = (u8, Vec<u8>);
+
+fn add(serial: u32, peers: usize) -> Command {
+    add_for(OWN, &entry(serial, peers))
 }
 
-fn add_for(recipient: Identity, entry: Entry) -> Request {
-    Request::Add { recipient, entry }
+fn add_for(recipient: Identity, entry: &Entry) -> Command {
+    (kind::ADD_KEYS, k_struct(recipient, entry))
 }
 
-fn delete(serial: u32) -> Request {
-    Request::Delete(identifier(serial))
+fn delete(serial: u32) -> Command {
+    (kind::DELETE_KEYS, k_identifier(identifier(serial)))
 }
 
-/// Update entities: so many peers, each the same.
-fn entities(serial: u32, peer: Identity, count: usize) -> Request {
-    Request::UpdateEntities {
-        key: identifier(serial),
-        peers: vec![peer; count],
-    }
+/// K-VALIDITY (000, 5.3.7.1).
+fn validity(serial: u32, start: u32, end: u32) -> Command {
+    let mut bytes = k_identifier(identifier(serial));
+    bytes.extend(start.to_be_bytes());
+    bytes.extend(end.to_be_bytes());
+    (kind::UPDATE_KEY_VALIDITIES, bytes)
+}
+
+/// K-ENTITIES (000, 5.3.8.1): so many peers, each the same.
+fn entities(serial: u32, peer: Identity, count: usize) -> Command {
+    let mut bytes = k_identifier(identifier(serial));
+    bytes.extend(peer_list(&vec![peer; count]));
+    (kind::UPDATE_KEY_ENTITIES, bytes)
+}
+
+/// K-IDENTIFIER (000, 5.3.4.2).
+fn k_identifier(key: KeyIdentifier) -> Vec<u8> {
+    [key.issuer, key.serial].concat()
+}
+
+/// PEER-NUM and the peers.
+fn peer_list(peers: &[Identity]) -> Vec<u8> {
+    let mut bytes = (peers.len() as u16).to_be_bytes().to_vec();
+    bytes.extend(peers.concat());
+    bytes
+}
+
+/// K-STRUCT (000, 5.3.4.1).
+fn k_struct(recipient: Identity, entry: &Entry) -> Vec<u8> {
+    let mut bytes = vec![entry.kmac.len() as u8];
+    bytes.extend(k_identifier(entry.key));
+    bytes.extend(recipient);
+    bytes.extend(entry.kmac);
+    bytes.extend(peer_list(&entry.peers));
+    bytes.extend(entry.start.to_be_bytes());
+    bytes.extend(entry.end.to_be_bytes());
+    bytes
+}
+
+/// A message of the centre with a right header.
+fn message(number: u16, kind: u8, body: &[u8]) -> Vec<u8> {
+    assemble(OWN, CENTRE, TRANSACTION, number, kind, body)
 }
 
 /// Makes the buffer the empty store.
@@ -189,17 +266,48 @@ fn entries(store: &[u8]) -> Vec<Entry> {
     decode(store).expect("the store is sound")
 }
 
-/// Works a request on the buffer and gives its RESULT.
-fn worked(store: &mut [u8], request: Request) -> u8 {
-    let mut entries = entries(store);
-    let result = work(&mut entries, &OWN, request);
-    store.copy_from_slice(&encode(&entries));
-    result
+/// A session that the centre's session init with this number opens.
+fn opened(number: u16, store: &mut [u8]) -> Session {
+    let out = &mut [0; OUTPUT_LENGTH];
+    let (session, _) = begin(OWN, CENTRE, OWN_START, out).expect("a session is begun");
+    let (session, answer) = receive(session, &session_init(OWN, CENTRE, number), store, out);
+    assert_eq!(answer, Answer::Opened);
+    session
 }
 
-/// NAME: RESULT.
-fn request(store: &mut [u8], name: &str, request: Request) {
-    println!("{name}: {}", worked(store, request));
+/// Delivers a message, prints what the reply says, and gives the session for the next.
+fn deliver(session: Session, store: &mut [u8], name: &str, message: &[u8]) -> Session {
+    let out = &mut [0; OUTPUT_LENGTH];
+    let (session, answer) = receive(session, message, store, out);
+    let Answer::Reply(length) = answer else {
+        panic!("{name}: no reply, but {answer:?}");
+    };
+    println!("{name}: {}", said(&out[HEADER_LENGTH..length]));
+    session
+}
+
+/// The RESULTs of a reply's body; where it has none, RESPONSE and REQ-NUM (000, 5.3.15).
+fn said(body: &[u8]) -> String {
+    let (response, count) = (body[0], u16::from_be_bytes([body[1], body[2]]));
+    let results: Vec<_> = body[3..].iter().map(u8::to_string).collect();
+    if response == response::DONE && count > 0 {
+        results.join(" ")
+    } else {
+        format!("RESPONSE {response}, REQ-NUM {count}")
+    }
+}
+
+/// A command with these requests, in a session of its own.
+fn command(store: &mut [u8], name: &str, kind: u8, requests: &[Vec<u8>]) {
+    let mut body = (requests.len() as u16).to_be_bytes().to_vec();
+    body.extend(requests.concat());
+    let session = opened(CENTRE_START, store);
+    let message = message(CENTRE_START + 1, kind, &body);
+    deliver(session, store, name, &message);
+}
+
+fn request(store: &mut [u8], name: &str, (kind, request): Command) {
+    command(store, name, kind, &[request]);
 }
 
 /// NAME: PLACE.
@@ -208,6 +316,17 @@ fn search(store: &[u8], name: &str, peer: Identity, t: u32) {
         Ok(place) => println!("{name}: {place}"),
         Err(refusal) => println!("{name}: H{refusal}"),
     }
+}
+
+/// NAME: the bytes of the KMAC at the place that the search gives, none where it refuses.
+fn kmac(store: &[u8], name: &str, peer: Identity, t: u32) {
+    print!("{name}:");
+    if let Ok(place) = find(store, &peer, t) {
+        for byte in entries(store)[place - 1].kmac {
+            print!(" {byte}");
+        }
+    }
+    println!();
 }
 
 /// The serials of all records in store order.
