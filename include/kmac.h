@@ -88,16 +88,17 @@ extern "C" {
  * Stack of each call in bytes: from the caller's stack pointer on, with arguments, return address and glibc's memmove and
  * memset. tests/c/frames bounds it from the machine code, tests/c/stack.c measures it. Rounded up to a multiple of 64.
  */
+#define KMAC_STACK_SELF_TEST 8320
 #define KMAC_STACK_EMPTY_STORE 64
 #define KMAC_STACK_FIND 192
 #define KMAC_STACK_BEGIN 64
 #define KMAC_STACK_RECEIVE 640
-#define KMAC_STACK_SESSION_KEYS 6912
+#define KMAC_STACK_SESSION_KEYS 6976
 #define KMAC_STACK_BUILD 6720
 #define KMAC_STACK_CHECK 6720
-#define KMAC_STACK_DES_ENCIPHER 6528
-#define KMAC_STACK_DES_DECIPHER 6528
-#define KMAC_STACK_MAX 6912
+#define KMAC_STACK_DES_ENCIPHER 1088
+#define KMAC_STACK_DES_DECIPHER 1088
+#define KMAC_STACK_MAX 8320
 
 /* The refusals of the house. */
 enum kmac_refusal {
@@ -219,6 +220,18 @@ int32_t kmac_build(const uint8_t *key, size_t key_len, const uint8_t destination
  */
 int32_t kmac_check(const uint8_t *unit, size_t unit_len, const uint8_t *key, size_t key_len,
                    const uint8_t destination[KMAC_DESTINATION_LEN], uint8_t direction);
+
+/* ---- power-on */
+
+/*
+ * The self-test, for power-on. It works the tables of the quick rounds again from the tables that FIPS 46-3 prints, entry by
+ * entry; works a block by both, both ways; the example of SUBSET-037-2, Annex B; and a MAC and session keys, as the calls
+ * above make them, against the printed tables. It touches no buffer of the host's.
+ * Answers 0, or -1 where it fails. It is proved to answer 0 on a machine that does what the language says. So an answer of
+ * -1 says nothing of the host or its data: memory, processor or compiler are not what was proved, and no other answer of
+ * the library can be relied on.
+ */
+int32_t kmac_self_test(void);
 
 /* ---- DES (FIPS 46-3) alone */
 

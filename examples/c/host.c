@@ -183,6 +183,7 @@ int main(void)
 {
     struct centre centre = {KEY_CENTRE, TUG, 1, 500};
     uint8_t keys[KMAC_KEY_LEN];
+    step("self-test at power-on", kmac_self_test(), 0);
     step("make the empty store", kmac_empty_store(kept[current], KMAC_STORE_LEN), 0);
     open_session(&centre);
     take_keys(&centre);

@@ -32,6 +32,7 @@ static int32_t (*const check)(const uint8_t *, size_t, const uint8_t *, size_t, 
 static void (*const encipher)(const uint8_t *, const uint8_t *, uint8_t *) = kmac_des_encipher;
 static void (*const decipher)(const uint8_t *, const uint8_t *, uint8_t *) = kmac_des_decipher;
 static int32_t (*const empty_store)(uint8_t *, size_t) = kmac_empty_store;
+static int32_t (*const self_test)(void) = kmac_self_test;
 
 static uint8_t store[KMAC_STORE_LEN], session[KMAC_SESSION_LEN], out[KMAC_OUT_LEN];
 static const uint8_t bytes[KMAC_KEY_LEN] = {0x01, 0x02, 0x04, 0x07, 0x08, 0x0b, 0x0d, 0x0e};
@@ -88,7 +89,7 @@ static int des_answers(void)
 
 int main(void)
 {
-    if (!store_answers() || !session_answers() || !unit_answers() || !des_answers()) {
+    if (!store_answers() || !session_answers() || !unit_answers() || !des_answers() || self_test() != 0) {
         puts("a call does not answer as kmac.h says");
         return 1;
     }

@@ -107,6 +107,13 @@ static void call_empty_store(void)
     leave();
 }
 
+static void call_self_test(void)
+{
+    enter();
+    answer = kmac_self_test();
+    leave();
+}
+
 /* ---- measuring */
 
 static size_t depth_with(void (*call)(void), uint8_t paint)
@@ -176,5 +183,6 @@ int main(void)
     measure("kmac_des_encipher", call_encipher, full, 0, KMAC_STACK_DES_ENCIPHER);
     measure("kmac_des_decipher", call_decipher, full, 0, KMAC_STACK_DES_DECIPHER);
     measure("kmac_empty_store", call_empty_store, full, 0, KMAC_STACK_EMPTY_STORE);
+    measure("kmac_self_test", call_self_test, full, 0, KMAC_STACK_SELF_TEST);
     return 0;
 }
