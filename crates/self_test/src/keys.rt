@@ -51,13 +51,13 @@ fn keys_right_of(k1: u64, k2: u64, k3: u64, a: u64, b: u64) -> bool
     same_but_parity(&key, &plain)
 }
 
-// Three of them, from numbers that DES makes: every entry of both tables is looked up.
+// Sixteen of them, from numbers that DES makes: every entry of both tables is looked up.
 pub fn keys_right() -> bool
     ensures { λ r. ⌜ r ≡ true ⌝ }
 {
     let mut x: u64 = 0x0123_4567_89ab_cdef;
     let mut n: usize = 0;
-    while n < 3 {
+    while n < 16 {
         let k1 = encipher(x, x);
         let k2 = encipher(x, k1);
         let k3 = encipher(x, k2);

@@ -9,10 +9,10 @@ use Rattle.self_test.proofs.keys.keys_right.Statement.{statement}
 use Rattle.self_test.proofs.keys.keys_right.Tie as tie
 
 abbrev Inv-loop : tie.InvT-loop
-Inv-loop x₀ n₀ x n = n ≤ 3
+Inv-loop x₀ n₀ x n = n ≤ 16
 
 abbrev μ-loop : tie.MeasureT-loop
-μ-loop x₀ n₀ x n = 3 - n
+μ-loop x₀ n₀ x n = 16 - n
 
 loop-holds : tie.Need-loop-holds Inv-loop μ-loop
 loop-holds c = omega arith
