@@ -37,14 +37,11 @@ pub fn blocks(m: &[u8]) -> usize
     (m.len() + 12) / 8
 }
 
-// Block k of l | DA | m | p, as a word: eight bytes of m where it lies whole in m, else byte by byte.
-pub fn string_word(k: usize, destination: [u8; 3], m: &[u8]) -> u64
+// Block k of l | DA | m | p, as a word, byte by byte.
+pub fn word_by_bytes(k: usize, destination: [u8; 3], m: &[u8]) -> u64
     requires { ⌜ k < (length (now m) + 12) / 8 ⌝ }
     ensures { λ r. ⌜ r ≡ number 8 (macString destination (now (m .entry))) (8 * k) ⌝ }
 {
-    if 1 <= k && 8 * k + 3 <= m.len() {
-        return octets::get64_at(m, 8 * k - 5);
-    }
     let mut r: u64 = 0;
     let mut i: usize = 0;
     while i < 8 {
@@ -52,4 +49,15 @@ pub fn string_word(k: usize, destination: [u8; 3], m: &[u8]) -> u64
         i += 1;
     }
     r
+}
+
+// The same, at once where the block lies whole in m.
+pub fn string_word(k: usize, destination: [u8; 3], m: &[u8]) -> u64
+    requires { ⌜ k < (length (now m) + 12) / 8 ⌝ }
+    ensures { λ r. ⌜ r ≡ number 8 (macString destination (now (m .entry))) (8 * k) ⌝ }
+{
+    if 1 <= k && 8 * k + 3 <= m.len() {
+        return octets::get64_at(m, 8 * k - 5);
+    }
+    word_by_bytes(k, destination, m)
 }

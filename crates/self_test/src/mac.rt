@@ -13,7 +13,7 @@ use crate::words::fast_decipher;
 use crate::words::fast_encipher;
 use authentication::keys::join;
 use authentication::string::blocks;
-use authentication::string::string_word;
+use authentication::string::word_by_bytes;
 
 // The keys of Annex B.
 const K1: u64 = 0x0102_0407_080b_0d0e;
@@ -62,7 +62,7 @@ fn plain_chain(k1: u64, destination: [u8; 3], m: &[u8]) -> u64
     let mut h: u64 = 0;
     let mut k = 0;
     while k < n {
-        h = encipher(k1, h ^ string_word(k, destination, m));
+        h = encipher(k1, h ^ word_by_bytes(k, destination, m));
         k += 1;
     }
     h

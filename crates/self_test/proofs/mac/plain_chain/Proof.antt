@@ -26,8 +26,8 @@ loop-holds c =
     let a = c .before .before .args in
     (omega arith, chain-none (bits 64 (a .k1)) (macString (a .destination) (a .m .now)))
 
-string-word-requires : tie.Need-string-word-requires Inv-loop μ-loop
-string-word-requires c κs = omega (arith, c .before .before .blocks2 .ensures)
+word-by-bytes-requires : tie.Need-word-by-bytes-requires Inv-loop μ-loop
+word-by-bytes-requires c κs = omega (arith, c .before .before .blocks2 .ensures)
 
 encipher-requires : tie.Need-encipher-requires Inv-loop μ-loop
 encipher-requires c κs = search needs
@@ -47,7 +47,7 @@ loop-again c =
     let s = macString (a .destination) (a .m .now) in
     let fits : 8 * loop .loop .k + 8 ≤ length s = omega (arith, length-string (a .destination) (a .m .now) (start .good .1 .0 .1 .0 .1), loop .before .blocks2 .ensures, word .before .loop-test .taken) in (
       omega arith,
-      chain-more (bits 64 (a .k1)) s (loop .loop .k) (word .string-word .result) (loop .loop .h) (c .encipher .result) fits (word .string-word .ensures) (loop .loop .inv .1) (c .encipher .ensures),
+      chain-more (bits 64 (a .k1)) s (loop .loop .k) (word .word-by-bytes .result) (loop .loop .h) (c .encipher .result) fits (word .word-by-bytes .ensures) (loop .loop .inv .1) (c .encipher .ensures),
     )
 
 returns : tie.Need-returns Inv-loop μ-loop
@@ -65,7 +65,7 @@ plain-chain-spec =
     μ-loop
     blocks-requires
     loop-holds
-    string-word-requires
+    word-by-bytes-requires
     encipher-requires
     add-k
     loop-less
