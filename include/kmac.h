@@ -88,7 +88,7 @@ extern "C" {
  * Stack of each call in bytes: from the caller's stack pointer on, with arguments, return address and glibc's memmove and
  * memset. tests/c/frames bounds it from the machine code, tests/c/stack.c measures it. Rounded up to a multiple of 64.
  */
-#define KMAC_STACK_SELF_TEST 8320
+#define KMAC_STACK_SELF_TEST 8128
 #define KMAC_STACK_EMPTY_STORE 64
 #define KMAC_STACK_FIND 192
 #define KMAC_STACK_BEGIN 64
@@ -96,9 +96,9 @@ extern "C" {
 #define KMAC_STACK_SESSION_KEYS 6976
 #define KMAC_STACK_BUILD 6720
 #define KMAC_STACK_CHECK 6720
-#define KMAC_STACK_DES_ENCIPHER 1088
-#define KMAC_STACK_DES_DECIPHER 1088
-#define KMAC_STACK_MAX 8320
+#define KMAC_STACK_DES_ENCIPHER 896
+#define KMAC_STACK_DES_DECIPHER 896
+#define KMAC_STACK_MAX 8128
 
 /* The refusals of the house. */
 enum kmac_refusal {

@@ -4,7 +4,7 @@ use mathlib.Core.Path.{_≡_, refl, sym, ap, ap₂, _∙_, subst, subst⁻¹}
 use mathlib.Core.Bool.{true, _&&_}
 use mathlib.Core.List.{List, [], _∷_, _++_, map-append}
 use Prim.Native.Nat.{ℕ, suc, _+_, _-_, _*_, _/_, _%_, _^_, _≤_, _<_}
-use native.Mathlib.Nat.{add-comm, zero-add, mul-zero, mul-le-mul-left}
+use native.Mathlib.Nat.{add-comm, zero-add, mul-zero, mul-le-mul-left, mul-div-cancel}
 use native.Mathlib.Omega.{arith}
 use native.Mathlib.Numerals.{add-one}
 use lib.Dec.{leb, ltb, lit≤, lit<}
@@ -19,7 +19,7 @@ use Rattle.octets.proofs.PartLaws.{part-add, part-snoc}
 use Rattle.des.specs.Bits.{bits, value, valueFrom, xorBits}
 use Rattle.des.specs.Des.{permute, row, column, select, selects, swap, shiftBoth, round, cipherFunction}
 use Rattle.des.specs.Tables.{sboxes}
-use Rattle.des.specs.Words.{Holds, Names}
+use Rattle.des.specs.Words.{Holds, Names, Rows}
 use Rattle.des.proofs.MapLaws.{every-at}
 use Rattle.des.proofs.BitLaws.{length-bits, split-bits, take-bits, drop-bits, value-bits}
 use Rattle.des.proofs.WordLaws.{recast, resize, push, pushed, masked, whole, xored, part-bits, group-bits}
@@ -67,7 +67,10 @@ row-step w x t from i r n h s p =
     (one-bit _ b ∙ ap (λ (n : ℕ). n ∷ []) (m ∙ sym (named w k x (v .0) (v .1))) ∙ sym (permute-one k (bits w x)))
     ∙ sym (permute-append (part t from i) (k ∷ []) (bits w x)) ∙ ap (λ (l : List ℕ). permute l (bits w x)) (sym (part-snoc t from i h)))
 
--- a table's rows: each within the table, none yet, and one more
+-- a table's rows: eight, each within the table, none yet, and one more
+pub eight-rows : {w n : ℕ} {t : List ℕ} → Rows w n t → length t / n ≡ 8
+eight-rows {w} {n} r = ap (λ (l : ℕ). l / n) (r .eight) ∙ mul-div-cancel 8 (r .some)
+
 pub rows-fit : (n i : ℕ) → i < 8 → n * i + n ≤ 8 * n
 rows-fit n i h =
     let m : n * (i + 1) ≤ n * 8 = mul-le-mul-left n (omega arith) in

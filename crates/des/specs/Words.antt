@@ -33,6 +33,7 @@ pub record Names (w : ℕ) (table : List ℕ) : Type 0 where
 pub record Rows (w n : ℕ) (table : List ℕ) : Type 0 where
   pub names : Names w table
   pub eight : length table ≡ 8 * n
+  pub some : 1 ≤ n
   pub most : n ≤ 8
 
 -- ks are the keys of the sixteen iterations

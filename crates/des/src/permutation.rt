@@ -31,9 +31,10 @@ fn permute(x: u64, width: u64, table: &[u8], n: usize) -> u64
     requires { ⌜ Rows width n (now table) ⌝ }
     ensures { λ r. ⌜ Holds (8 * n) r (permuted (now (table .entry)) (bits width x)) ⌝ }
 {
+    let rows = table.len() / n;
     let mut r: u64 = 0;
     let mut i = 0;
-    while i < 8 {
+    while i < rows {
         r = (r << (n as u64)) | permute_row(x, width, table, n * i, n);
         i += 1;
     }
