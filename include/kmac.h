@@ -225,11 +225,11 @@ int32_t kmac_check(const uint8_t *unit, size_t unit_len, const uint8_t *key, siz
 
 /*
  * The self-test, for power-on. It works the tables of the quick rounds again from the tables that FIPS 46-3 prints, entry by
- * entry; works a block by both, both ways; the example of SUBSET-037-2, Annex B; and a MAC and session keys, as the calls
- * above make them, against the printed tables. It touches no buffer of the host's.
- * Answers 0, or -1 where it fails. It is proved to answer 0 on a machine that does what the language says. So an answer of
- * -1 says nothing of the host or its data: memory, processor or compiler are not what was proved, and no other answer of
- * the library can be relied on.
+ * entry; two blocks by both, both ways; the example of SUBSET-037-2, Annex B, by the quick rounds; and a MAC and session
+ * keys, as the calls above make them, against the printed tables. It takes nothing from the host.
+ * Answers 0, or -1 where it fails. It is proved to answer 0 on a machine that does what the language says. So -1, which is no
+ * refusal here, says that memory, processor or the compiler's back end are not what was proved, and no answer of the library
+ * can be relied on. 0 says that these computations came out right this once; sessions and stores are not looked at.
  */
 int32_t kmac_self_test(void);
 

@@ -5,13 +5,6 @@ ghost use lib.ListN.{length, getD};
 ghost use Rattle.octets.specs.Bytes.{number};
 ghost use Rattle.authentication.specs.Mac.{unpadded, macString};
 
-// A byte as a word.
-fn wide(x: u8) -> u64
-    ensures { λ r. ⌜ (r ≡ x) × (r < 256) ⌝ }
-{
-    x as u64
-}
-
 // Byte i of l | DA | m, and zero behind it, as the padding is.
 fn string_byte(i: usize, destination: [u8; 3], m: &[u8]) -> u64
     ensures { λ r. ⌜ (r ≡ getD (unpadded destination (now (m .entry))) i 0) × (r < 256) ⌝ }
@@ -19,12 +12,12 @@ fn string_byte(i: usize, destination: [u8; 3], m: &[u8]) -> u64
     if 5 <= i {
         let at = i - 5;
         if at < m.len() {
-            return wide(m[at]);
+            return octets::wide64(m[at]);
         }
         return 0;
     }
     if 2 <= i {
-        return wide(destination[i - 2]);
+        return octets::wide64(destination[i - 2]);
     }
     let l = (m.len() + 3) as u64;
     if i == 0 { l / 256 % 256 } else { l % 256 }

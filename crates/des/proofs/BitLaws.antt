@@ -41,7 +41,7 @@ head-free a w b =
     ∙ ap (λ (n : ℕ). n % 2) (add-mul-div-right b (a * 2) (pow-pos w))
     ∙ omega arith
 
-pub low-free : (w a b : ℕ) → bits w (a * 2 ^ w + b) ≡ bits w b
+low-free : (w a b : ℕ) → bits w (a * 2 ^ w + b) ≡ bits w b
 unfolding bits
 low-free zero a b = refl
 low-free (suc w) a b = ap₂ (λ (h : ℕ) (t : List ℕ). h ∷ t) (head-free a w b) (ap (bits w) (twice-up a w b) ∙ low-free w (a * 2) b)

@@ -33,9 +33,9 @@ pub shifted-step : (key : List ℕ) (n cd d : ℕ) {s : ℕ} → s ≡ getD shif
 unfolding shifted
 shifted-step key n cd d hs h e = e ∙ ap₂ shiftBoth hs h
 
-pub few : (n : ℕ) → n < 16 → getD shifts n 0 ≤ 28
+pub shifts-fit : (n : ℕ) → n < 16 → getD shifts n 0 ≤ 28
 unfolding shifts
-few n h = leb-true (getD shifts n 0) 28 (every-at (λ (x : ℕ). leb x 28) shifts refl n h)
+shifts-fit n h = leb-true (getD shifts n 0) 28 (every-at (λ (x : ℕ). leb x 28) shifts refl n h)
 
 -- the place of a key, whatever the order
 pub turned-below : (back : Bool) (n at : ℕ) → n < 16 → at ≡ turned back n → at < 16

@@ -89,6 +89,13 @@ rows-step w x n t i h hr hq =
     (sym (permute-append (part t 0 (n * i)) (part t (n * i) n) (bits w x))
     ∙ ap (λ (l : List ℕ). permute l (bits w x)) (ap (λ (k : ℕ). part t 0 (n * i) ++ part t k n) (sym (zero-add (n * i))) ∙ sym (part-add t 0 (n * i) n) ∙ ap (part t 0) e)))
 
+-- a table that is lent, and what is worked by it
+pub rows-lent : {w n : ℕ} {t u : List ℕ} → t ≡ u → Rows w n u → Rows w n t
+rows-lent {w} {n} e r = subst⁻¹ (λ (l : List ℕ). Rows w n l) e r
+
+pub worked-lent : (bs : List ℕ) {v r : ℕ} {t u : List ℕ} → t ≡ u → Holds v r (permute t bs) → Holds v r (permute u bs)
+worked-lent bs e h = recast h (ap (λ (l : List ℕ). permute l bs) e)
+
 -- ---- left shifts
 
 -- `((y << n) | (y >> (w - n)))` of a number y of w bits, and of that the low w bits

@@ -7,10 +7,10 @@ ghost use Rattle.des.specs.Words.{Keys, keysOf};
 use crate::iteration::crypt;
 use crate::permutation::choice1;
 use crate::permutation::choice2;
-use crate::selection::wide;
 use crate::shift::shift_both;
 use crate::tables::SHIFTS;
 use crate::tables::pc2_table;
+use octets::wide64;
 
 pub mod iteration;
 pub mod permutation;
@@ -43,7 +43,7 @@ pub fn schedule(key: u64) -> [u64; 16]
     let mut cd = choice1(key);
     let mut n = 0;
     while n < 16 {
-        cd = shift_both(cd, wide(SHIFTS[n]));
+        cd = shift_both(cd, wide64(SHIFTS[n]));
         keys[n] = choice2(cd, &table);
         n += 1;
     }

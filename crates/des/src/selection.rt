@@ -5,13 +5,7 @@ ghost use Rattle.des.specs.Bits.{bits};
 ghost use Rattle.des.specs.Tables.{sboxes};
 ghost use Rattle.des.specs.Des.{select as selected, selects};
 ghost use Rattle.des.specs.Words.{Holds};
-
-// A byte as a word.
-pub fn wide(x: u8) -> u64
-    ensures { λ r. ⌜ (r ≡ x) × (r < 256) ⌝ }
-{
-    x as u64
-}
+use octets::wide64;
 
 // What box k selects for a group of six bits: the outer two are the row, the four between them the column.
 pub fn select(k: usize, group: u64, boxes: &[u8]) -> u64
@@ -21,7 +15,7 @@ pub fn select(k: usize, group: u64, boxes: &[u8]) -> u64
     let row = ((group >> 5) << 1) | (group & 1);
     let column = (group >> 1) & 15;
     let at = 64 * k + 16 * (row as usize) + (column as usize);
-    wide(boxes[at])
+    wide64(boxes[at])
 }
 
 // The eight boxes, each at its six of the 48 bits.

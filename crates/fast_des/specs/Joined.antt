@@ -1,4 +1,4 @@
--- The tables of the code, each by its rule.
+-- The two tables of the joined rounds, each by its rule.
 -- Assumes nothing.
 use mathlib.Core.List.{List, _++_, map}
 use Prim.Native.Nat.{ℕ, _+_, _-_, _*_, _/_, _%_}

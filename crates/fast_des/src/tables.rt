@@ -1,4 +1,4 @@
-// The tables of the code. That each is what its rule asks is shown once, over the whole table, where it is handed out (`joined_table`, `groups_table`).
+// The two tables of the joined rounds. That each is what its rule asks is shown once, over the whole table, where it is handed out (`joined_table`, `groups_table`).
 
 // Entry 64 k + g: what box k selects for the six bits g, moved by P and expanded by E, the 48 bits as a number.
 pub const JOINED: [u64; 512] = [

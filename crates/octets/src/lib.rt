@@ -18,7 +18,7 @@ fn wide32(x: u8) -> u32
     x as u32
 }
 
-fn wide64(x: u8) -> u64
+pub fn wide64(x: u8) -> u64
     ensures { λ r. ⌜ (r ≡ x) × (r < 256) ⌝ }
 {
     x as u64

@@ -25,9 +25,10 @@ use Rattle.runs.specs.Calls.{Call, brings, World, seen, next, allSeen, f
 use Rattle.runs.specs.Alike.{inKeysFrom, inMessageKey, inRecordKey, inStoreKey, DifferAt, AlikeMessages, no-calls, alike-message, isSound, AlikeStores}
 use Rattle.runs.specs.Tally.{tags, without, tagged, allTagged, tallyFrom}
 use Rattle.runs.specs.Secrecy.{noneUnlike, tallyOf, Alike}
-use Rattle.runs.specs.CodeRuns.{by-message, CodeRun, code-ends, code-message}
+use Rattle.runs.specs.CodeRuns.{Handed, by-message, CodeRun, code-ends, code-message, AlikeCode}
 use Rattle.runs.specs.Starred.{expecting, from2to1, kStruct}
 use Rattle.runs.proofs.Theorem.{secrecy}
+use Rattle.runs.proofs.CodeRunLaws.{secrecy-of-calls}
 
 -- ---- alike, as a test
 
@@ -163,9 +164,19 @@ answers : (outcome 1 .answer ≡ reply 24) × (outcome 7 .answer ≡ reply 24)
 unfolding receive receiveIn editionOf editionIn inState verdict firstFailed obey respond kindOf bodyOk fieldsFrom fieldsOk sizeAt requests requestsFrom requestAt work peersOf encode header keyRecord keyRecords words sound allHold headerOk countsOk sumsOk sumBefore uniqueOk newKey parityOk allOdd unusedOk allBelow allZero part ones
 answers = (refl, refl)
 
-code-added : (k : ℕ) → outcome k .answer ≡ reply 24
-    → CodeRun (added k) (world k) (by-message (Reply 24) (outcome k .output) ∷ []) (record { session = outcome k .session; store = outcome k .store })
+abbrev handed : ℕ → List Handed
+handed k = by-message (Reply 24) (outcome k .output) ∷ []
+
+abbrev left : ℕ → World
+left k = record { session = outcome k .session; store = outcome k .store }
+
+code-added : (k : ℕ) → outcome k .answer ≡ reply 24 → CodeRun (added k) (world k) (handed k) (left k)
 code-added k q = code-message (record { answer-is = sym q; session-is = refl; store-is = refl; output-is = refl }) code-ends
+
+alike-code : AlikeCode (added 1) (added 7) (world 1) (world 7) (handed 1) (handed 7) (left 1) (left 7)
+alike-code =
+    secrecy-of-calls .runs (added 1) (added 7) (world 1) (world 7) (left 1) (left 7) (handed 1) (handed 7) refl alike-holds
+    (alike-message (adding 1) (adding 7) out alike-adding no-calls) (code-added 1 (answers .0)) (code-added 7 (answers .1))
 
 -- both keys are unlike once the one is added, and none is left at the end
 tallies : (tallyOf (added 1) (added 7) (world 1) (world 7) ≡ record { issuer = 3; serial = 4; unlike = true } ∷ record { issuer = 3; serial = 5; unlike = true } ∷ [])

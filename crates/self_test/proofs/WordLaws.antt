@@ -108,7 +108,7 @@ three-words a b c =
 -- ---- session keys
 
 -- the three formulas by words, each as its call promises it
-pub keys-worked : (kmac ra rb : List ℕ) (k1 k2 k3 l r a b c : ℕ) → Blocks kmac k1 k2 k3 → left ra ++ left rb ≡ bits 64 l → right ra ++ right rb ≡ bits 64 r
+keys-worked : (kmac ra rb : List ℕ) (k1 k2 k3 l r a b c : ℕ) → Blocks kmac k1 k2 k3 → left ra ++ left rb ≡ bits 64 l → right ra ++ right rb ≡ bits 64 r
     → bits 64 a ≡ triple (bits 64 k1) (bits 64 k2) (bits 64 k3) (bits 64 l) → bits 64 b ≡ triple (bits 64 k1) (bits 64 k2) (bits 64 k3) (bits 64 r)
     → bits 64 c ≡ triple (bits 64 k3) (bits 64 k2) (bits 64 k1) (bits 64 l) → sessionKeys kmac ra rb ≡ map odd (bytes 8 a ++ (bytes 8 b ++ bytes 8 c))
 unfolding sessionKeys ks1 ks2 ks3 triple

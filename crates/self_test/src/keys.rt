@@ -51,7 +51,7 @@ fn keys_right_of(k1: u64, k2: u64, k3: u64, a: u64, b: u64) -> bool
     same_but_parity(&key, &plain)
 }
 
-// Sixteen of them, from numbers that DES makes: every entry of both tables is looked up.
+// The session keys of sixteen KMACs that DES makes: three of them look up every entry of both tables.
 pub fn keys_right() -> bool
     ensures { λ r. ⌜ r ≡ true ⌝ }
 {

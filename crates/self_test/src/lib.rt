@@ -1,5 +1,5 @@
-// The self-test at power-on: the tables of the code against the printed ones, DES by the tables against the joined rounds, Annex B of SUBSET-037-2, the MAC and the session keys.
-// It is proved to answer true. Where it answers false, the machine that runs it is not the one that the proofs are about: memory, processor or compiler.
+// The self-test at power-on: the two tables of the joined rounds against the printed ones, DES by the printed tables against the joined rounds, Annex B of SUBSET-037-2, the MAC and the session keys.
+// It is proved to answer true. Where it answers false, the machine that runs it is not the one that the proofs are about: memory, processor or compiler back end.
 ghost use mathlib.Core.Path.{_≡_};
 ghost use mathlib.Core.Bool.{true};
 ghost use Rattle.fast_des.specs.Joined.{joined, pc2Groups};
@@ -54,7 +54,7 @@ fn rounds_right(key: u64, x: u64) -> bool
     tables_right(key, x, &groups, &table)
 }
 
-// The rounds are tried with a block and with its complement. Two calls keep their tables in a frame of their own, off the stack that the MAC needs.
+// The rounds are tried twice, the second time with key and block complemented. A function that is called twice keeps its frame: its tables are off the stack when the MAC is made.
 pub fn self_test() -> bool
     ensures { λ r. ⌜ r ≡ true ⌝ }
 {

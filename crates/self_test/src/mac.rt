@@ -16,11 +16,18 @@ use authentication::string::blocks;
 use authentication::string::word_by_bytes;
 
 // The keys of Annex B.
-const K1: u64 = 0x0102_0407_080b_0d0e;
+const B1: u64 = 0x0102_0407_080b_0d0e;
 
-const K2: u64 = 0x1013_1516_191a_1c1f;
+const B2: u64 = 0x1013_1516_191a_1c1f;
 
-const K3: u64 = 0x2023_2526_292a_2c2f;
+const B3: u64 = 0x2023_2526_292a_2c2f;
+
+// Keys whose three schedules look up every entry of permuted choice 2 by groups.
+const K1: u64 = 0x4561_57bf_b6ab_fbe5;
+
+const K2: u64 = 0x9d54_6497_bf46_cd7a;
+
+const K3: u64 = 0xf8ec_ae25_b99b_02f8;
 
 // Three blocks chained from zero under k1, then k2 and k3, by the joined rounds.
 fn fast_cbc_mac(
@@ -51,7 +58,7 @@ pub fn annex_b(groups: &[u64], table: &[u64]) -> bool
     let x = 0x0001_0203_0405_0607;
     let y = 0x0809_0a0b_0c0d_0e0f;
     let z = 0x1011_1213_1400_0000;
-    fast_cbc_mac(K1, K2, K3, x, y, z, groups, table) == 0x361d_431e_d396_c175
+    fast_cbc_mac(B1, B2, B3, x, y, z, groups, table) == 0x361d_431e_d396_c175
 }
 
 // The chain over the blocks of a message's string, by the printed tables.
@@ -76,7 +83,7 @@ fn plain_mac(k1: u64, k2: u64, k3: u64, destination: [u8; 3], m: &[u8]) -> u64
     encipher(k3, decipher(k2, h))
 }
 
-// Bytes of all values.
+// Byte i is i modulo 251, so that no two blocks are alike.
 fn fill(m: &mut [u8]) {
     let mut i = 0;
     while i < m.len() {
@@ -85,25 +92,14 @@ fn fill(m: &mut [u8]) {
     }
 }
 
-// A long message's MAC, as the module makes it, against the printed tables. Key and length are such that every entry of both tables is looked up.
+// A long message's MAC, as the module makes it, against the printed tables: its 65 blocks look up every entry of the joined table.
 pub fn mac_right() -> bool
     ensures { λ r. ⌜ r ≡ true ⌝ }
 {
     let mut m = [0u8; 512];
     fill(&mut m);
     let destination: [u8; 3] = [0x12, 0x34, 0x56];
-    let key = join(
-        0x4561_57bf_b6ab_fbe5,
-        0x9d54_6497_bf46_cd7a,
-        0xf8ec_ae25_b99b_02f8,
-    );
-    let made = authentication::mac(key, destination, &m);
-    let plain = plain_mac(
-        0x4561_57bf_b6ab_fbe5,
-        0x9d54_6497_bf46_cd7a,
-        0xf8ec_ae25_b99b_02f8,
-        destination,
-        &m,
-    );
+    let made = authentication::mac(join(K1, K2, K3), destination, &m);
+    let plain = plain_mac(K1, K2, K3, destination, &m);
     des::load(made) == plain
 }

@@ -6,12 +6,12 @@
 
 use std::array::from_fn;
 
-type Half = [bool; 32];
-type RoundKey = [bool; 48];
+pub(crate) type Half = [bool; 32];
+pub(crate) type RoundKey = [bool; 48];
 
 /// The sixteen round keys of one key.
 pub struct Des {
-    round_keys: [RoundKey; 16],
+    pub(crate) round_keys: [RoundKey; 16],
 }
 
 impl Des {
@@ -59,7 +59,7 @@ fn rounds<'a>(block: &[u8; 8], round_keys: impl Iterator<Item = &'a RoundKey>) -
 }
 
 /// The cipher function f(R, K). The outer bits of six select the row, the inner the column.
-fn f(right: &Half, round_key: &RoundKey) -> Half {
+pub(crate) fn f(right: &Half, round_key: &RoundKey) -> Half {
     let mut out = [false; 32];
     for (s, s_box) in S_BOXES.iter().enumerate() {
         let bit = |i: usize| usize::from(right[expansion(6 * s + i)] ^ round_key[6 * s + i]);
@@ -72,7 +72,7 @@ fn f(right: &Half, round_key: &RoundKey) -> Half {
     out
 }
 
-fn to_bits(octets: &[u8; 8]) -> [bool; 64] {
+pub(crate) fn to_bits(octets: &[u8; 8]) -> [bool; 64] {
     from_fn(|i| octets[i / 8] >> (7 - i % 8) & 1 == 1)
 }
 
@@ -82,28 +82,28 @@ fn to_octets(bits: &[bool; 64]) -> [u8; 8] {
 
 /// IP: each row of eight is one bit of every byte, the last byte first.
 /// The bits come in the order 1 3 5 7 0 2 4 6.
-fn initial(i: usize) -> usize {
+pub(crate) fn initial(i: usize) -> usize {
     8 * (7 - i % 8) + (2 * (i / 8) + 1) % 9
 }
 
 /// E: groups of four with the neighbour on either side, in a ring of 32.
-fn expansion(i: usize) -> usize {
+pub(crate) fn expansion(i: usize) -> usize {
     (4 * (i / 6) + i % 6 + 31) % 32
 }
 
 /// PC-1, register C: bits 0, 1, 2 of every byte and bit 3 of the last four, the last byte first.
-fn choice_c(i: usize) -> usize {
+pub(crate) fn choice_c(i: usize) -> usize {
     8 * (7 - i % 8) + i / 8
 }
 
 /// PC-1, register D: bits 6, 5, 4 of every byte and bit 3 of the first four, the last byte first.
-fn choice_d(i: usize) -> usize {
+pub(crate) fn choice_d(i: usize) -> usize {
     let last_byte = if i < 24 { 7 } else { 3 };
     8 * (last_byte - i % 8) + 6 - i / 8
 }
 
 /// The sum of the left shifts up to each round.
-const OFFSETS: [usize; 16] = [1, 2, 4, 6, 8, 10, 12, 14, 15, 17, 19, 21, 23, 25, 27, 28];
+pub(crate) const OFFSETS: [usize; 16] = [1, 2, 4, 6, 8, 10, 12, 14, 15, 17, 19, 21, 23, 25, 27, 28];
 
 /// PC-2: where each S-box's six key bits stand, in C for boxes 1 to 4, in D for 5 to 8.
 const PC2: [[usize; 6]; 8] = [

@@ -11,7 +11,7 @@ use borrow.Author.Needs.{needs}
 use Rattle.des.specs.Bits.{bits}
 use Rattle.des.specs.Tables.{pc2, shifts}
 use Rattle.des.specs.Des.{permute, shifted, subkey}
-use Rattle.des.proofs.KeyLaws.{keys-step, shifted-step, few}
+use Rattle.des.proofs.KeyLaws.{keys-step, shifted-step, shifts-fit}
 use Rattle.des.proofs.schedule.Statement.{statement}
 use Rattle.des.proofs.schedule.Tie as tie
 
@@ -38,15 +38,15 @@ loop-holds : tie.Need-loop-holds Inv-loop μ-loop
 unfolding shifted
 loop-holds c = record { most = omega arith; sixteen = refl; halves = c .choice1 .ensures .same; made = below-none _ }
 
-array-read-wide : tie.Need-array-read-wide Inv-loop μ-loop
-array-read-wide c = omega arith
+array-read-wide64 : tie.Need-array-read-wide64 Inv-loop μ-loop
+array-read-wide64 c = omega arith
 
-wide-requires : tie.Need-wide-requires Inv-loop μ-loop
-wide-requires c κs = tt
+wide64-requires : tie.Need-wide64-requires Inv-loop μ-loop
+wide64-requires c κs = tt
 
 shift-both-requires : tie.Need-shift-both-requires Inv-loop μ-loop
 unfolding shifts
-shift-both-requires c κs = omega (arith, few (c .before .before .loop .n) (c .before .loop-test .taken))
+shift-both-requires c κs = omega (arith, shifts-fit (c .before .before .loop .n) (c .before .loop-test .taken))
 
 slice-aggregate-choice2 : tie.Need-slice-aggregate-choice2 Inv-loop μ-loop
 slice-aggregate-choice2 c = search needs
@@ -77,7 +77,7 @@ loop-again c =
     let key = a .before .before .before .args .key in
     let l : n < length (a .loop .keys) = omega arith in
     let next : bits 56 (shifted-once .shift-both .result) ≡ shifted (bits 64 key) (suc n) =
-    shifted-step (bits 64 key) n (a .loop .cd) (shifted-once .shift-both .result) (shifted-once .before .wide .ensures .0) (a .loop .inv .halves) (shifted-once .shift-both .ensures .same) in
+    shifted-step (bits 64 key) n (a .loop .cd) (shifted-once .shift-both .result) (shifted-once .before .wide64 .ensures .0) (a .loop .inv .halves) (shifted-once .shift-both .ensures .same) in
     record {
       most = omega arith;
       sixteen = simp length-set (a .loop .inv .sixteen);
@@ -98,8 +98,8 @@ schedule-spec =
     pc2-table-requires
     choice1-requires
     loop-holds
-    array-read-wide
-    wide-requires
+    array-read-wide64
+    wide64-requires
     shift-both-requires
     slice-aggregate-choice2
     choice2-requires

@@ -5,6 +5,7 @@ mod authentication;
 mod des;
 mod numbers;
 mod runs;
+mod self_test;
 mod session;
 mod slips;
 mod store;

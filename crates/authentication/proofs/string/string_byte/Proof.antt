@@ -13,16 +13,16 @@ use Rattle.authentication.proofs.string.string_byte.Tie as tie
 three : (c : tie.Start) → length (c .args .t2) ≡ 3
 three c = c .good .1 .0 .1 .0 .1
 
-shared-slice-read-wide : tie.Need-shared-slice-read-wide
-shared-slice-read-wide c = search needs
+shared-slice-read-wide64 : tie.Need-shared-slice-read-wide64
+shared-slice-read-wide64 c = search needs
 
-wide-requires : tie.Need-wide-requires
-wide-requires c κs = search needs
+wide64-requires : tie.Need-wide64-requires
+wide64-requires c κs = search needs
 
 returns : tie.Need-returns
 returns c =
     let s = c .before .before .before .before .before in
-    (c .wide .ensures .0 ∙ sym (byte-past (s .args .t2) (s .args .m .now) (three s) (s .args .i) (c .before .before .before .if1 .taken)), c .wide .ensures .1)
+    (c .wide64 .ensures .0 ∙ sym (byte-past (s .args .t2) (s .args .m .now) (three s) (s .args .i) (c .before .before .before .if1 .taken)), c .wide64 .ensures .1)
 
 returns-2 : tie.Need-returns-2
 returns-2 c =
@@ -30,16 +30,16 @@ returns-2 c =
     let e = byte-past (s .args .t2) (s .args .m .now) (three s) (s .args .i) (c .before .if1 .taken) in
     (sym (e ∙ List·getD-eq-default (s .args .m .now) 0 (c .if2 .left)), lit< tt)
 
-array-read-wide : tie.Need-array-read-wide
-array-read-wide c = search needs
+array-read-wide64 : tie.Need-array-read-wide64
+array-read-wide64 c = search needs
 
-wide-requires-2 : tie.Need-wide-requires-2
-wide-requires-2 c κs = search needs
+wide64-requires-2 : tie.Need-wide64-requires-2
+wide64-requires-2 c κs = search needs
 
 returns-3 : tie.Need-returns-3
 returns-3 c =
     let s = c .before .before .before .before in
-    (c .wide2 .ensures .0 ∙ sym (byte-destination (s .args .t2) (s .args .m .now) (three s) (s .args .i) (c .before .if3 .taken) (omega arith)), c .wide2 .ensures .1)
+    (c .wide642 .ensures .0 ∙ sym (byte-destination (s .args .t2) (s .args .m .now) (three s) (s .args .i) (c .before .if3 .taken) (omega arith)), c .wide642 .ensures .1)
 
 add-l : tie.Need-add-l
 add-l c = search needs
@@ -59,12 +59,12 @@ pub string-byte-spec : {M : Type 1} → statement M
 string-byte-spec =
     tie.close
     (tie.spec
-    shared-slice-read-wide
-    wide-requires
+    shared-slice-read-wide64
+    wide64-requires
     returns
     returns-2
-    array-read-wide
-    wide-requires-2
+    array-read-wide64
+    wide64-requires-2
     returns-3
     add-l
     returns-4
