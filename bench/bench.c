@@ -116,6 +116,8 @@ static void find_reference(void) { made.answer = reference_find(now->store, KMAC
 static void sound_kmac(void) { made.answer = kmac_find(unsound, KMAC_STORE_LEN, worst_peer(), worst_moment()); }
 static void sound_reference(void) { made.answer = reference_find(unsound, KMAC_STORE_LEN, worst_peer(), worst_moment()); }
 
+static void self_test(void) { made.answer = kmac_self_test(); }
+
 /* ---- rows */
 
 enum { LIBRARY, OPENSSL, NETTLE, SECOND, CONTENDERS };
@@ -133,6 +135,7 @@ static const struct row rows[] = {
     {"build a unit of 1,032 bytes", {build_kmac, build_openssl, build_nettle, build_reference}, WORST_DELETES},
     {"session keys", {keys_kmac, keys_openssl, keys_nettle, keys_reference}, WORST_DELETES},
     {"DES, key set-up and one block", {block_kmac, block_openssl, block_nettle, NULL}, WORST_DELETES},
+    {"self-test at power-on", {self_test, NULL, NULL, NULL}, WORST_DELETES},
     {NULL, {receive_kmac, NULL, NULL, receive_reference}, WORST_ONE_ADD},
     {NULL, {receive_kmac, NULL, NULL, receive_reference}, WORST_ADDS},
     {NULL, {receive_kmac, NULL, NULL, receive_reference}, WORST_ADDS_FULL},
