@@ -39,11 +39,21 @@
  * constant time. It does not wipe its stack, where key bytes may stay behind: a host that minds this wipes that memory.
  *
  *
+ * TWO EDITIONS OF THE STORE
+ *
+ * A store of edition 1 has KMAC_STORE_LEN bytes, one of edition 2, for a larger depot, KMAC_STORE_2_LEN. Each call that
+ * takes a store takes either: the length that is lent picks the edition, and the limits are that edition's. The header
+ * inside must be of the same edition, or the store counts as unsound; its bytes 10 and 11 are the store's length, the first
+ * byte on top. The host chooses once, with the length that it lends to kmac_empty_store. No call makes the one edition of
+ * the other: a depot that changes over begins with an empty store of edition 2, and its key centre brings the keys anew. A
+ * session is tied to no edition.
+ *
+ *
  * THE STORE OVER LOSS OF POWER
  *
- * The store is KMAC_STORE_LEN bytes of the host's, made once by kmac_empty_store. It holds keys in the clear: the host
- * keeps others from reading it. kmac_receive changes it in place and in many steps, so loss of power in the middle can
- * leave half a change. The host therefore never lends its only copy:
+ * The store is the host's, made once by kmac_empty_store. It holds keys in the clear: the host keeps others from reading
+ * it. kmac_receive changes it in place and in many steps, so loss of power in the middle can leave half a change. The host
+ * therefore never lends its only copy:
  *
  *     copy the kept store to working memory;
  *     call kmac_receive on that copy;
@@ -55,8 +65,9 @@
  * last switched to and begins a new session.
  *
  * A store that is no longer sound is found out: kmac_find refuses it with H12, and kmac_receive answers RESPONSE 6, which
- * tells the key centre; its "delete all keys" makes the store empty. Damage that leaves the store sound, say two changed
- * bits in one byte of a KMAC, is not found out: a host that must see it keeps a checksum of its own.
+ * tells the key centre; its "delete all keys" makes the store empty, of the edition whose length is lent. Damage that
+ * leaves the store sound, say two changed bits in one byte of a KMAC, is not found out: a host that must see it keeps a
+ * checksum of its own.
  */
 #ifndef KMAC_H
 #define KMAC_H
@@ -69,9 +80,12 @@ extern "C" {
 #endif
 
 /* Lengths in bytes. */
-#define KMAC_STORE_LEN 3852       /* the key store */
+#define KMAC_STORE_LEN 3852       /* the key store, edition 1 */
 #define KMAC_STORE_KEYS 64        /* keys that it has room for, */
 #define KMAC_STORE_PEERS 256      /* and peers of all keys together */
+#define KMAC_STORE_2_LEN 38012    /* the key store, edition 2 */
+#define KMAC_STORE_2_KEYS 500     /* keys that it has room for, */
+#define KMAC_STORE_2_PEERS 4000   /* and peers of all keys together */
 #define KMAC_SESSION_LEN 32       /* a session */
 #define KMAC_OUT_LEN 1032         /* the least output buffer */
 #define KMAC_MESSAGE_MAX 5000     /* the longest message of a key centre; a longer one is answered with RESPONSE 2 */
@@ -90,9 +104,9 @@ extern "C" {
  */
 #define KMAC_STACK_SELF_TEST 8128
 #define KMAC_STACK_EMPTY_STORE 64
-#define KMAC_STACK_FIND 192
+#define KMAC_STACK_FIND 1216
 #define KMAC_STACK_BEGIN 64
-#define KMAC_STACK_RECEIVE 640
+#define KMAC_STACK_RECEIVE 1600
 #define KMAC_STACK_SESSION_KEYS 6976
 #define KMAC_STACK_BUILD 6720
 #define KMAC_STACK_CHECK 6720
@@ -102,7 +116,7 @@ extern "C" {
 
 /* The refusals of the house. */
 enum kmac_refusal {
-    KMAC_H1_STORE_LENGTH = -1,     /* the store buffer is not 3,852 bytes */
+    KMAC_H1_STORE_LENGTH = -1,     /* the store buffer is neither 3,852 nor 38,012 bytes */
     KMAC_H2_OUTPUT_LENGTH = -2,    /* the output buffer is under 1,032 bytes */
     KMAC_H3_SESSION_CLOSED = -3,   /* a message to a closed session */
     KMAC_H4_MESSAGE_SHORT = -4,    /* a message shorter than its header of 20 bytes */
@@ -120,7 +134,7 @@ enum kmac_refusal {
 /* ---- the key store */
 
 /*
- * Makes the empty store in the buffer, whatever stood there. This is how a store begins.
+ * Makes the empty store in the buffer, of the edition that has its length, whatever stood there. So a store begins.
  * Answers 0. Refuses H1.
  */
 int32_t kmac_empty_store(uint8_t *store, size_t store_len);
@@ -135,7 +149,10 @@ int32_t kmac_empty_store(uint8_t *store, size_t store_len);
  */
 int32_t kmac_find(const uint8_t *store, size_t store_len, uint32_t peer, uint32_t t);
 
-/* Where in the store the KMAC of a place from 1 to 64 starts. It is valid until the store is written again. */
+/*
+ * Where in a store the KMAC of a place starts: from 1 to KMAC_STORE_KEYS, or in edition 2 to KMAC_STORE_2_KEYS. It is valid
+ * until the store is written again.
+ */
 #define KMAC_KEY_AT(place) ((size_t)12 + (size_t)44 * ((size_t)(place) - 1) + 8)
 
 /* ---- sessions with the key centre */
@@ -180,11 +197,11 @@ int32_t kmac_begin(uint32_t own, uint32_t peer, uint16_t number, uint8_t session
  *     RESULT
  *     0   done
  *     1   delete or update: the key is not held
- *     2   add: 64 keys are held
+ *     2   add: as many keys are held as the edition has room for, 64 or 500
  *     3   add: issuer and serial are held already
  *     4   add: a byte of the KMAC has an even number of ones
  *     5   add: the recipient is not the own identity
- *     255 add or update of entities: there would be more than 256 peers altogether
+ *     255 add or update of entities: there would be more peers altogether than the edition has room for, 256 or 4,000
  *
  * For an add they are tested in the order 5, 4, 3, 2, 255. A request with a RESULT other than 0 leaves the store as the
  * request before it did.

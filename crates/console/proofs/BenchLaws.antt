@@ -1,48 +1,85 @@
 -- The bytes that a line brings.
 -- Assumes nothing.
-use mathlib.Core.Path.{_≡_, sym, ap, _∙_}
-use mathlib.Core.Bool.{Bool, false, cond}
-use mathlib.Core.List.{List}
+use mathlib.Core.Path.{_≡_, refl, sym, ap, _∙_}
+use mathlib.Core.Bool.{Bool, true, false}
+use mathlib.Core.List.{List, _++_}
 use Prim.Native.Nat.{ℕ, _+_, _-_, _≤_, _<_}
 use native.Mathlib.Omega.{arith}
 use lib.Dec.{eqb}
 use lib.ListN.{length, take, replicate, length-replicate}
-use borrow.Author.Tests.{lt-leb, le-leb, lt-ltb, le-ltb, ne-eqb, eq-eqb}
+use lib.Seq.{length-take-le, take-at}
+use borrow.Author.Tests.{lt-leb, le-leb, lt-ltb, le-ltb, eqb-true}
 use Rattle.octets.specs.Bytes.{part, splice}
-use Rattle.octets.proofs.SpliceLaws.{splice-front, splice-all}
+use Rattle.octets.proofs.SpliceLaws.{splice-front}
+use Rattle.store.specs.Search.{emptied}
+use Rattle.store.specs.declared.Limits.{Limits}
+use Rattle.store.specs.declared.Edition.{Edition}
+use Rattle.store.specs.declared.Edition.the-variants.{Known, Unknown}
+use Rattle.store.specs.Layout.{edition1, edition2, pickEdition, editionIn, editionOf}
 use Rattle.lines.specs.Digits.{bytesOf, Puts}
 use Rattle.lines.specs.Words.{word}
-use Rattle.console.specs.Bench.{bytesIn, storeIn, filledBy, lineBy}
+use Rattle.console.specs.Bench.{bytesIn, sizeOf, storeOf, emptyOf, takenIn, storeIn, filledBy, lineBy}
 
 -- what is read of word k into an empty buffer
-pub bytes-read : (text w d : List ℕ) (k n : ℕ) → w ≡ word text k → Puts (take (length {A = ℕ} (replicate 5005 0)) (bytesOf w)) (replicate 5005 0) d n → take n d ≡ bytesIn text k
+pub bytes-read : (text w d : List ℕ) (k n : ℕ) → w ≡ word text k → Puts (take (length {A = ℕ} (replicate 38050 0)) (bytesOf w)) (replicate 38050 0) d n → take n d ≡ bytesIn text k
 bytes-read text w d k n e p =
-    let l : length {A = ℕ} (replicate 5005 0) ≡ 5005 = length-replicate {A = ℕ} 5005 0 in
+    let l : length {A = ℕ} (replicate 38050 0) ≡ 38050 = length-replicate {A = ℕ} 38050 0 in
     ap (take n) (p .written)
-    ∙ splice-front (replicate 5005 0) (take (length {A = ℕ} (replicate 5005 0)) (bytesOf w)) n (sym (p .many))
+    ∙ splice-front (replicate 38050 0) (take (length {A = ℕ} (replicate 38050 0)) (bytesOf w)) n (sym (p .many))
     ∙ ap (λ (j : ℕ). take j (bytesOf w)) l
-    ∙ ap (λ (v : List ℕ). take 5005 (bytesOf v)) e
+    ∙ ap (λ (v : List ℕ). take 38050 (bytesOf v)) e
 
-bytes-counted : (text w d : List ℕ) (k n : ℕ) → w ≡ word text k → Puts (take (length {A = ℕ} (replicate 5005 0)) (bytesOf w)) (replicate 5005 0) d n → n ≡ length (bytesIn text k)
+bytes-counted : (text w d : List ℕ) (k n : ℕ) → w ≡ word text k → Puts (take (length {A = ℕ} (replicate 38050 0)) (bytesOf w)) (replicate 38050 0) d n → n ≡ length (bytesIn text k)
 bytes-counted text w d k n e p =
-    p .many ∙ ap (λ (j : ℕ). length (take j (bytesOf w))) (length-replicate {A = ℕ} 5005 0) ∙ ap (λ (v : List ℕ). length (take 5005 (bytesOf v))) e
+    p .many ∙ ap (λ (j : ℕ). length (take j (bytesOf w))) (length-replicate {A = ℕ} 38050 0) ∙ ap (λ (v : List ℕ). length (take 38050 (bytesOf v))) e
+
+-- ---- the store that is held
+
+pub front-length : (large : Bool) (n : ℕ) (s : List ℕ) → (n ≡ sizeOf large) × (n ≤ 38012) → length s ≡ 38012 → n ≡ length (take n s)
+front-length large n s h l = sym (length-take-le n s (omega (arith, h .1, l)))
+
+pub front-held : (large : Bool) (n : ℕ) (new rest : List ℕ) → (n ≡ sizeOf large) × (n ≤ 38012) → length new ≡ n → storeOf large (new ++ rest) ≡ new
+front-held large n new rest h l = take-at new rest (sizeOf large) (l ∙ h .0)
+
+-- the empty store of the edition that has the length of the one that is held
+pub emptied-held : (large : Bool) (n : ℕ) (s new rest : List ℕ) → (n ≡ sizeOf large) × (n ≤ 38012) → n ≡ length s → new ≡ emptied (editionOf (length s)) s → length new ≡ length s
+    → storeOf large (new ++ rest) ≡ emptyOf large
+unfolding editionOf editionIn emptied
+emptied-held large n s new rest h l e k =
+    front-held large n new rest h (k ∙ sym l) ∙ e ∙ ap (λ (m : ℕ). emptied (editionOf m) s) (sym l ∙ h .0) ∙ go large
+  where
+    go : (b : Bool) → emptied (editionOf (sizeOf b)) s ≡ emptyOf b
+    go true = refl
+    go false = refl
 
 -- ---- the store that a line brings
 
-pub store-kept : (text w d old : List ℕ) (n : ℕ) → w ≡ word text 1 → Puts (take (length {A = ℕ} (replicate 5005 0)) (bytesOf w)) (replicate 5005 0) d n → (n ≡ 3852 → ⊥)
-    → old ≡ storeIn text old
-store-kept text w d old n e p f =
-    let b : eqb (length (bytesIn text 1)) 3852 ≡ false = ne-eqb (length (bytesIn text 1)) 3852 (λ q. f (bytes-counted text w d 1 n e p ∙ q)) in
-    sym (ap (λ (x : Bool). cond x (bytesIn text 1) old) b)
+-- the editions' lengths
+pub edition-length : (n : ℕ) (L : Limits) → editionOf n ≡ Known L → (n ≤ 38012) × (sizeOf (eqb n 38012) ≡ n)
+unfolding editionOf editionIn
+edition-length n L e = go (eqb n 3852) (eqb n 38012) refl refl e
+  where
+    go : (a b : Bool) → eqb n 3852 ≡ a → eqb n 38012 ≡ b → pickEdition a (Known edition1) (pickEdition b (Known edition2) Unknown) ≡ Known L → (n ≤ 38012) × (sizeOf b ≡ n)
+    go true true p q h = let z : _≡_ {A = ℕ} 3852 38012 = sym (eqb-true n 3852 p) ∙ eqb-true n 38012 q in absurd (omega arith)
+    go true false p q h = let z : n ≡ 3852 = eqb-true n 3852 p in (omega arith, sym z)
+    go false true p q h = let z : n ≡ 38012 = eqb-true n 38012 q in (omega arith, sym z)
+    go false false p q h = let z : _≡_ {A = ℕ} 0 1 = cc in absurd (omega arith)
 
-pub store-taken : (text w d old new : List ℕ) (n : ℕ) → w ≡ word text 1 → Puts (take (length {A = ℕ} (replicate 5005 0)) (bytesOf w)) (replicate 5005 0) d n → n ≡ 3852 → length old ≡ 3852
-    → new ≡ splice old 0 (part d 0 3852) → new ≡ storeIn text old
-unfolding part
-store-taken text w d old new n e p f l q =
-    let v : List ℕ = bytesIn text 1 in
-    let r : part d 0 3852 ≡ v = ap (λ (j : ℕ). take j d) (sym f) ∙ bytes-read text w d 1 n e p in
-    let c : length v ≡ 3852 = sym (bytes-counted text w d 1 n e p) ∙ f in
-    q ∙ ap (λ (x : List ℕ). splice old 0 x) r ∙ splice-all old v (l ∙ sym c) ∙ sym (ap (λ (x : Bool). cond x v old) (eq-eqb (length v) 3852 c))
+module _ (text w d : List ℕ) (n : ℕ) (e : w ≡ word text 1) (p : Puts (take (length {A = ℕ} (replicate 38050 0)) (bytesOf w)) (replicate 38050 0) d n) where
+  pub store-kept : (old : List ℕ) → editionOf n ≡ Unknown → old ≡ storeIn text old
+  store-kept old f = sym (ap (λ (x : Edition). takenIn x (bytesIn text 1) old) (ap editionOf (sym (bytes-counted text w d 1 n e p)) ∙ f))
+
+  pub store-taken : (old before new : List ℕ) (L : Limits) → editionOf n ≡ Known L → new ≡ splice before 0 (part d 0 n)
+      → storeOf (eqb n 38012) new ≡ storeIn text old
+  unfolding part
+  store-taken old before new L f q =
+      let v : List ℕ = bytesIn text 1 in
+      let r : part d 0 n ≡ v = bytes-read text w d 1 n e p in
+      let c : n ≡ length v = bytes-counted text w d 1 n e p in
+      ap (λ (k : ℕ). take k new) (edition-length n L f .1)
+      ∙ ap (take n) (q ∙ ap (λ (x : List ℕ). splice before 0 x) r)
+      ∙ splice-front before v n (sym c)
+      ∙ sym (ap (λ (x : Edition). takenIn x v old) (ap editionOf (sym c) ∙ f))
 
 -- ---- the line that is read
 

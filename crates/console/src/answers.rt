@@ -18,7 +18,7 @@ const RESPONSE_AT: usize = 20;
 
 fn reason(h: Refusal) {
     match h {
-        Refusal::StoreLength => line(b" store is not 3852 bytes"),
+        Refusal::StoreLength => line(b" store has the length of no edition"),
         Refusal::OutputLength => line(b" output under 1032 bytes"),
         Refusal::SessionClosed => line(b" session is closed"),
         Refusal::MessageShort => line(b" message shorter than a header"),

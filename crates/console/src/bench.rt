@@ -7,8 +7,10 @@ use crate::faults::unknown;
 use crate::sessions::begin;
 use crate::sessions::receive;
 use crate::show::held;
+use crate::stores::choose;
 use crate::stores::empty;
 use crate::stores::search;
+use crate::stores::store_of;
 use crate::stores::take;
 use crate::text::line;
 use crate::units::build;
@@ -25,6 +27,8 @@ ghost use Rattle.octets.specs.Bytes.{part};
 
 pub struct Bench {
     pub session: Session,
+    // Whether the store that is held has the length of edition 2.
+    pub large: bool,
     // Whether session keys are held.
     pub held: bool,
     // The number of the line that is read, and how many bytes of it are there: more than it has room for where it is too long.
@@ -47,6 +51,7 @@ impl Bench {
         };
         Bench {
             session,
+            large: false,
             held: false,
             line: 1,
             filled: 0,
@@ -56,7 +61,7 @@ impl Bench {
 
     // What a line asks is done.
     fn obey(mut self, text: &[u8], store: &mut [u8], keys: &mut [u8]) -> Bench
-        requires { ⌜ (length (now store) ≡ 3852) × (length (now keys) ≡ 24) ⌝ }
+        requires { ⌜ (length (now store) ≡ 38012) × (length (now keys) ≡ 24) ⌝ }
     {
         match read(text) {
             Order::Nothing => {}
@@ -65,11 +70,11 @@ impl Bench {
                 self.session = begin(self.session, own, peer, number);
             }
             Order::Message => {
-                self.session = receive(self.session, text, store);
+                self.session = receive(self.session, text, self.large, store);
             }
-            Order::Search(peer, t) => search(store, peer, t),
+            Order::Search(peer, t) => search(store_of(self.large, store), peer, t),
             Order::Keys(place, ra, rb) => {
-                self.held = hold(self.held, store, place, ra, rb, keys);
+                self.held = hold(self.held, store_of(self.large, store), place, ra, rb, keys);
             }
             Order::Build(destination, direction) => {
                 build(self.held, text, keys, destination, direction);
@@ -77,12 +82,18 @@ impl Bench {
             Order::Check(destination, direction) => {
                 check(self.held, text, keys, destination, direction);
             }
-            Order::Store => take(text, store),
+            Order::Store => {
+                self.large = take(self.large, text, store);
+            }
+            Order::Edition(large) => {
+                choose(large, store);
+                self.large = large;
+            }
             Order::Show => {
-                held(store);
+                held(store_of(self.large, store));
                 shown(self.session);
             }
-            Order::Empty => empty(store),
+            Order::Empty => empty(self.large, store),
             Order::Help => help(),
             Order::Unknown => unknown(self.line),
             Order::Bad(fault, command) => bad(self.line, fault, command),
@@ -92,7 +103,7 @@ impl Bench {
 
     // The line has come to its end.
     pub fn end_line(self, text: &[u8], store: &mut [u8], keys: &mut [u8]) -> Bench
-        requires { ⌜ (length (now store) ≡ 3852) × (length (now keys) ≡ 24) ⌝ }
+        requires { ⌜ (length (now store) ≡ 38012) × (length (now keys) ≡ 24) ⌝ }
     {
         let n = self.filled;
         if text.len() < n {

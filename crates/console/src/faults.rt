@@ -21,7 +21,8 @@ fn usage(command: Command) {
         Command::Check => line(
             b"check DESTINATION DIRECTION UNIT (6 hex digits, 0 or 1, two hex digits a byte)",
         ),
-        Command::Store => line(b"store HEX (3852 bytes, two hex digits a byte)"),
+        Command::Store => line(b"store HEX (3852 or 38012 bytes, two hex digits a byte)"),
+        Command::Edition => line(b"edition N (1 or 2: makes the empty store of it)"),
         Command::Show => line(b"show"),
         Command::Empty => line(b"empty"),
         Command::Help => line(b"help"),
@@ -60,7 +61,7 @@ pub fn unknown(n: u64) {
 
 pub fn too_long(n: u64) {
     at_line(n);
-    line(b"line too long: expected at most 10010 characters");
+    line(b"line too long: expected at most 76100 characters");
 }
 
 pub fn help() {
@@ -72,6 +73,7 @@ pub fn help() {
     usage(Command::Build);
     usage(Command::Check);
     usage(Command::Store);
+    usage(Command::Edition);
     usage(Command::Show);
     usage(Command::Empty);
     usage(Command::Help);

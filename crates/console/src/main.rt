@@ -1,8 +1,11 @@
 // Reads lines from standard input and writes what the module answers to each; help lists them.
 use crate::bench::Bench;
+use crate::stores::clear;
+use crate::text::LINE;
 use libc::STDIN_FILENO;
 use lines::words::Class;
 use lines::words::first;
+use store::editions::LENGTH_2;
 ghost use mathlib.Core.Path.{_≡_};
 ghost use Prim.Native.Nat.{_≤_};
 ghost use lib.ListN.{length};
@@ -27,7 +30,7 @@ fn take(
     keys: &mut [u8],
 ) -> Bench
     requires { ⌜ (from ≤ «end») × («end» ≤ length (now chunk)) ⌝ }
-    requires { ⌜ (length (now store) ≡ 3852) × (length (now keys) ≡ 24) ⌝ }
+    requires { ⌜ (length (now store) ≡ 38012) × (length (now keys) ≡ 24) ⌝ }
 {
     let next = bench.append(line, chunk, from, end);
     if end == chunk.len() {
@@ -38,7 +41,7 @@ fn take(
 
 // Works the lines of a chunk of the input.
 fn feed(start: Bench, chunk: &[u8], line: &mut [u8], store: &mut [u8], keys: &mut [u8]) -> Bench
-    requires { ⌜ (length (now store) ≡ 3852) × (length (now keys) ≡ 24) ⌝ }
+    requires { ⌜ (length (now store) ≡ 38012) × (length (now keys) ≡ 24) ⌝ }
 {
     let mut bench = start;
     let mut at = 0;
@@ -52,7 +55,7 @@ fn feed(start: Bench, chunk: &[u8], line: &mut [u8], store: &mut [u8], keys: &mu
 
 // Reads once, and works the lines that end there.
 fn turn(bench: Bench, line: &mut [u8], store: &mut [u8], keys: &mut [u8]) -> Bench
-    requires { ⌜ (length (now store) ≡ 3852) × (length (now keys) ≡ 24) ⌝ }
+    requires { ⌜ (length (now store) ≡ 38012) × (length (now keys) ≡ 24) ⌝ }
 {
     let mut chunk = io::buffer();
     let got = libc::read(STDIN_FILENO, &mut chunk);
@@ -64,7 +67,7 @@ fn turn(bench: Bench, line: &mut [u8], store: &mut [u8], keys: &mut [u8]) -> Ben
 
 // Nothing says that the input ends: the turns are counted down from a number that no run uses up.
 fn run(line: &mut [u8], store: &mut [u8], keys: &mut [u8]) -> Bench
-    requires { ⌜ (length (now store) ≡ 3852) × (length (now keys) ≡ 24) ⌝ }
+    requires { ⌜ (length (now store) ≡ 38012) × (length (now keys) ≡ 24) ⌝ }
 {
     let mut bench = Bench::new();
     let mut turns = u64::MAX;
@@ -77,7 +80,7 @@ fn run(line: &mut [u8], store: &mut [u8], keys: &mut [u8]) -> Bench
 
 // The last line counts, with a line end or without.
 fn finish(bench: Bench, line: &[u8], store: &mut [u8], keys: &mut [u8])
-    requires { ⌜ (length (now store) ≡ 3852) × (length (now keys) ≡ 24) ⌝ }
+    requires { ⌜ (length (now store) ≡ 38012) × (length (now keys) ≡ 24) ⌝ }
 {
     let filled = bench.filled;
     if filled > 0 {
@@ -86,10 +89,11 @@ fn finish(bench: Bench, line: &[u8], store: &mut [u8], keys: &mut [u8])
 }
 
 fn main() {
-    let mut line = [0u8; 10010];
-    let mut store = [0u8; 3852];
+    let mut line = [0u8; LINE];
+    let mut store = [0u8; LENGTH_2];
     let mut keys = [0u8; 24];
-    store::empty(&mut store);
+    // Edition 1, as it was when there was no other.
+    clear(false, &mut store);
     let bench = run(&mut line, &mut store, &mut keys);
     finish(bench, &line, &mut store, &mut keys);
 }

@@ -3,6 +3,8 @@ use crate::answers::front;
 use crate::answers::named;
 use crate::answers::refused;
 use crate::answers::reply;
+use crate::stores::size;
+use crate::text::LINE_BYTES;
 use crate::text::line;
 use lines::digits::decode;
 use lines::words::word;
@@ -11,9 +13,9 @@ use session::Received;
 use session::Session;
 ghost use mathlib.Core.Path.{_≡_};
 ghost use Rattle.session.specs.Sessions.{begin as beginning};
-ghost use Rattle.session.specs.Rules.{receive as outcome};
 ghost use Rattle.runs.specs.Calls.{sessionOf};
-ghost use Rattle.console.specs.Bench.{output, bytesIn};
+ghost use lib.ListN.{length};
+ghost use Rattle.console.specs.Bench.{output, storeOf, received};
 
 pub fn begin(session: Session, own: u32, peer: u32, number: u16) -> Session
     ensures { λ r. ⌜ r ≡ sessionOf (beginning own peer number output) session ⌝ }
@@ -31,7 +33,7 @@ pub fn begin(session: Session, own: u32, peer: u32, number: u16) -> Session
     }
 }
 
-fn received(answer: Received, out: &[u8]) {
+fn answered(answer: Received, out: &[u8]) {
     match answer {
         Received::Reply(n) => reply(front(out, n)),
         Received::Opened => line(b"opened"),
@@ -40,16 +42,18 @@ fn received(answer: Received, out: &[u8]) {
     }
 }
 
-// The bytes of the message stand in hex in word 1; a line has room for 5,005 bytes at most.
-pub fn receive(session: Session, text: &[u8], store: &mut [u8]) -> Session
-    ensures { λ r. ⌜ (r ≡ outcome session (bytesIn (now (text .entry)) 1) (now (store .entry)) output .session) × (now (store .exit) ≡ outcome session (bytesIn (now (text .entry)) 1) (now (store .entry)) output .store) ⌝ }
+// The bytes of the message stand in hex in word 1.
+pub fn receive(session: Session, text: &[u8], large: bool, store: &mut [u8]) -> Session
+    requires { ⌜ length (now store) ≡ 38012 ⌝ }
+    ensures { λ r. ⌜ (r ≡ received session (now (text .entry)) large (now (store .entry)) .session) × (storeOf large (now (store .exit)) ≡ received session (now (text .entry)) large (now (store .entry)) .store) ⌝ }
 {
-    let mut bytes = [0u8; 5005];
+    let mut bytes = [0u8; LINE_BYTES];
     let w = word(text, 1);
-    let n = decode(w, &mut bytes);
+    let k = decode(w, &mut bytes);
     let mut out = [0u8; 1032];
-    let turn = session.receive(&bytes[..n], store, &mut out);
+    let n = size(large);
+    let turn = session.receive(&bytes[..k], &mut store[..n], &mut out);
     let answer = turn.answer;
-    received(answer, &out);
+    answered(answer, &out);
     turn.session
 }

@@ -8,13 +8,14 @@ use records::Record;
 use records::is_held;
 use records::peer_at;
 use records::record_at;
+use store::editions::LENGTH_2;
 use store::field::number_at;
 ghost use mathlib.Core.Path.{_≡_};
 ghost use mathlib.Core.Bool.{true};
-ghost use Prim.Native.Nat.{_+_, _≤_};
+ghost use Prim.Native.Nat.{_+_, _*_, _≤_, _<_};
 ghost use lib.ListN.{length};
-ghost use Rattle.store.specs.Layout.{edition1};
-ghost use Rattle.store.specs.Store.{sound};
+ghost use Rattle.octets.specs.Bytes.{get16};
+ghost use Rattle.runs.specs.Alike.{isSound};
 
 fn named(name: &[u8], x: u32) {
     text(name);
@@ -32,7 +33,7 @@ fn record(place: usize, r: Record) {
 }
 
 fn peers(s: &[u8], first: usize, count: usize)
-    requires { ⌜ (first + count ≤ 256) × (length (now s) ≡ 3852) ⌝ }
+    requires { ⌜ (first + count < 65536) × (12 ≤ length (now s)) × (get16 (now s) 8 + 4 * (first + count) ≤ length (now s)) ⌝ }
 {
     let mut k = 0;
     while k < count {
@@ -51,7 +52,7 @@ fn counts(keys: usize, peers: usize) {
 }
 
 fn records(s: &[u8])
-    requires { ⌜ sound edition1 (now s) ≡ true ⌝ }
+    requires { ⌜ isSound (now s) ≡ true ⌝ }
 {
     let n = number_at(s, 2);
     counts(n, number_at(s, 6));
@@ -64,7 +65,15 @@ fn records(s: &[u8])
     }
 }
 
+// A store of edition 1 is shown without its edition.
+fn edition(s: &[u8]) {
+    if s.len() == LENGTH_2 {
+        line(b"edition 2");
+    }
+}
+
 pub fn held(s: &[u8]) {
+    edition(s);
     if is_held(s) {
         records(s);
     } else {

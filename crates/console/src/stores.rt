@@ -1,16 +1,35 @@
-// The store: searched, taken and emptied.
+// The store: searched, taken and emptied. The bench has room for a store of either edition, at the front of its buffer.
 use crate::answers::place;
 use crate::answers::refused;
+use crate::text::LINE_BYTES;
 use crate::text::line;
 use lines::digits::decode;
 use lines::words::word;
-use records::STORE;
+use store::Edition;
 use store::Found;
+use store::editions::LENGTH_1;
+use store::editions::LENGTH_2;
+use store::editions::edition_of;
 ghost use mathlib.Core.Path.{_≡_};
+ghost use Prim.Native.Nat.{_≤_};
 ghost use lib.ListN.{length};
-ghost use Rattle.store.specs.Layout.{editionOf};
-ghost use Rattle.store.specs.Search.{emptied};
-ghost use Rattle.console.specs.Bench.{storeIn};
+ghost use Rattle.console.specs.Bench.{sizeOf, storeOf, storeIn, emptyOf};
+
+// The length of the store that is held.
+pub fn size(large: bool) -> usize
+    ensures { λ r. ⌜ (r ≡ sizeOf large) × (r ≤ 38012) ⌝ }
+{
+    if large { LENGTH_2 } else { LENGTH_1 }
+}
+
+// The store that is held.
+pub fn store_of(large: bool, store: &[u8]) -> &[u8]
+    requires { ⌜ length (now store) ≡ 38012 ⌝ }
+    ensures { λ r. ⌜ now r ≡ storeOf large (now (store .entry)) ⌝ }
+{
+    let n = size(large);
+    &store[..n]
+}
 
 pub fn search(store: &[u8], peer: u32, t: u32) {
     match store::find(store, peer, t) {
@@ -19,25 +38,53 @@ pub fn search(store: &[u8], peer: u32, t: u32) {
     }
 }
 
-// Takes the bytes of word 1 for the store, sound or not.
-pub fn take(text: &[u8], store: &mut [u8])
-    requires { ⌜ length (now store) ≡ 3852 ⌝ }
-    ensures { λ _. ⌜ now (store .exit) ≡ storeIn (now (text .entry)) (now (store .entry)) ⌝ }
+// Takes the bytes of word 1 for the store, sound or not, where an edition has their length. Answers whether edition 2 is held then.
+pub fn take(large: bool, text: &[u8], store: &mut [u8]) -> bool
+    requires { ⌜ length (now store) ≡ 38012 ⌝ }
+    ensures { λ r. ⌜ storeOf r (now (store .exit)) ≡ storeIn (now (text .entry)) (storeOf large (now (store .entry))) ⌝ }
 {
-    let mut bytes = [0u8; 5005];
+    let mut bytes = [0u8; LINE_BYTES];
     let w = word(text, 1);
     let n = decode(w, &mut bytes);
-    if n != STORE {
-        line(b"store not taken: expected 3852 bytes");
-        return;
+    match edition_of(n) {
+        Edition::Known(_) => {
+            octets::copy(store, 0, &bytes, 0, n);
+            line(b"store taken");
+            n == LENGTH_2
+        }
+        Edition::Unknown => {
+            line(b"store not taken: expected 3852 or 38012 bytes");
+            large
+        }
     }
-    octets::copy(store, 0, &bytes, 0, STORE);
-    line(b"store taken");
 }
 
-pub fn empty(store: &mut [u8])
-    ensures { λ _. ⌜ now (store .exit) ≡ emptied (editionOf (length (now (store .entry)))) (now (store .entry)) ⌝ }
+// Makes the store that is held the empty one of its edition.
+pub fn clear(large: bool, store: &mut [u8])
+    requires { ⌜ length (now store) ≡ 38012 ⌝ }
+    ensures { λ _. ⌜ storeOf large (now (store .exit)) ≡ emptyOf large ⌝ }
 {
-    store::empty(store);
+    let n = size(large);
+    store::empty(&mut store[..n]);
+}
+
+pub fn empty(large: bool, store: &mut [u8])
+    requires { ⌜ length (now store) ≡ 38012 ⌝ }
+    ensures { λ _. ⌜ storeOf large (now (store .exit)) ≡ emptyOf large ⌝ }
+{
+    clear(large, store);
     line(b"store empty");
+}
+
+// The same of the edition that is chosen.
+pub fn choose(large: bool, store: &mut [u8])
+    requires { ⌜ length (now store) ≡ 38012 ⌝ }
+    ensures { λ _. ⌜ storeOf large (now (store .exit)) ≡ emptyOf large ⌝ }
+{
+    clear(large, store);
+    if large {
+        line(b"store empty, edition 2");
+    } else {
+        line(b"store empty, edition 1");
+    }
 }

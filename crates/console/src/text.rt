@@ -1,6 +1,11 @@
-// What is written to standard output.
+// What is written to standard output, and how long a line of the input may be.
 use libc::STDOUT_FILENO;
 use lines::digits::encode;
+
+// The most characters of a line, and the most bytes that it can have in hex: a store of edition 2 fits.
+pub const LINE: usize = 76100;
+
+pub const LINE_BYTES: usize = 38050;
 
 pub fn text(s: &[u8]) {
     io::write_all(STDOUT_FILENO, s);

@@ -2,6 +2,7 @@
 use crate::answers::front;
 use crate::answers::named;
 use crate::answers::refused;
+use crate::text::LINE_BYTES;
 use crate::text::line;
 use authentication::Built;
 use authentication::Checked;
@@ -16,8 +17,7 @@ use store::field::number_at;
 ghost use mathlib.Core.Path.{_≡_};
 ghost use mathlib.Core.Bool.{true};
 ghost use lib.ListN.{length};
-ghost use Rattle.store.specs.Layout.{edition1};
-ghost use Rattle.store.specs.Store.{sound};
+ghost use Rattle.runs.specs.Alike.{isSound};
 ghost use Rattle.console.specs.Units.{heldKmac, threeBytes};
 
 // ---- session keys
@@ -51,7 +51,7 @@ fn derive(held: bool, kmac: &[u8], ra: u64, rb: u64, keys: &mut [u8]) -> bool
 
 // The KMAC at a place of a sound store, the first being 1; empty where it holds no record.
 fn kmac_at(s: &[u8], place: usize) -> &[u8]
-    requires { ⌜ sound edition1 (now s) ≡ true ⌝ }
+    requires { ⌜ isSound (now s) ≡ true ⌝ }
     ensures { λ r. ⌜ now r ≡ heldKmac (now (s .entry)) place ⌝ }
 {
     if place == 0 {
@@ -94,13 +94,13 @@ fn three(x: u32) -> [u8; 3]
     ]
 }
 
-// The user data stand in hex in word 3; a line has room for 5,005 bytes at most.
+// The user data stand in hex in word 3.
 pub fn build(held: bool, text: &[u8], keys: &[u8], destination: u32, direction: bool) {
     if !held {
         line(b"no session keys held");
         return;
     }
-    let mut bytes = [0u8; 5005];
+    let mut bytes = [0u8; LINE_BYTES];
     let w = word(text, 3);
     let n = decode(w, &mut bytes);
     let mut out = [0u8; 1032];
@@ -126,7 +126,7 @@ pub fn check(held: bool, text: &[u8], keys: &[u8], destination: u32, direction: 
         line(b"no session keys held");
         return;
     }
-    let mut bytes = [0u8; 5005];
+    let mut bytes = [0u8; LINE_BYTES];
     let w = word(text, 3);
     let n = decode(w, &mut bytes);
     checked(&bytes[..n], keys, three(destination), direction);

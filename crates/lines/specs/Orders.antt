@@ -74,6 +74,10 @@ keysOrder s =
     onValue command.Keys (hexField (word s 2) 16) (λ ra.
     onValue command.Keys (hexField (word s 3) 16) (λ rb. order.Keys place ra rb)))
 
+-- 1 or 2
+unfoldable pub editionOrder : List ℕ → Order
+editionOrder s = onValue command.Edition (decimalField (word s 1) 1 2) (λ n. order.Edition (eqb n 2))
+
 -- the destination and the direction of a unit; behind them its bytes or its user data
 abbrev pub onField : Field → (ℕ → UnitField) → UnitField
 onField (field.Value v) k = k v
@@ -101,13 +105,14 @@ fieldsOrder command.Keys s = keysOrder s
 fieldsOrder command.Build s = onUnit command.Build (unitField s) order.Build
 fieldsOrder command.Check s = onUnit command.Check (unitField s) order.Check
 fieldsOrder command.Store s = bytesOrder command.Store order.Store s
+fieldsOrder command.Edition s = editionOrder s
 fieldsOrder command.Show s = order.Show
 fieldsOrder command.Empty s = order.Empty
 fieldsOrder command.Help s = order.Help
 
 -- ---- commands
 
--- begin, message, search, keys, build, check, store, show, empty, help
+-- begin, message, search, keys, build, check, store, edition, show, empty, help
 unfoldable pub textOf : Command → List ℕ
 textOf command.Begin = 98 ∷ 101 ∷ 103 ∷ 105 ∷ 110 ∷ []
 textOf command.Message = 109 ∷ 101 ∷ 115 ∷ 115 ∷ 97 ∷ 103 ∷ 101 ∷ []
@@ -116,6 +121,7 @@ textOf command.Keys = 107 ∷ 101 ∷ 121 ∷ 115 ∷ []
 textOf command.Build = 98 ∷ 117 ∷ 105 ∷ 108 ∷ 100 ∷ []
 textOf command.Check = 99 ∷ 104 ∷ 101 ∷ 99 ∷ 107 ∷ []
 textOf command.Store = 115 ∷ 116 ∷ 111 ∷ 114 ∷ 101 ∷ []
+textOf command.Edition = 101 ∷ 100 ∷ 105 ∷ 116 ∷ 105 ∷ 111 ∷ 110 ∷ []
 textOf command.Show = 115 ∷ 104 ∷ 111 ∷ 119 ∷ []
 textOf command.Empty = 101 ∷ 109 ∷ 112 ∷ 116 ∷ 121 ∷ []
 textOf command.Help = 104 ∷ 101 ∷ 108 ∷ 112 ∷ []
@@ -129,21 +135,13 @@ unfoldable pub namedIn : List Command → List ℕ → Named
 namedIn [] w = named-as.Unknown
 namedIn (c ∷ cs) w = pickNamed (same w (textOf c)) (named-as.Is c) (namedIn cs w)
 
+-- those for the bench itself
+abbrev pub benchCommands : List Command
+benchCommands = command.Store ∷ command.Edition ∷ command.Show ∷ command.Empty ∷ command.Help ∷ []
+
 unfoldable pub commandOf : List ℕ → Named
 commandOf w =
-    namedIn
-    (command.Begin
-    ∷ command.Message
-    ∷ command.Search
-    ∷ command.Keys
-    ∷ command.Build
-    ∷ command.Check
-    ∷ command.Store
-    ∷ command.Show
-    ∷ command.Empty
-    ∷ command.Help
-    ∷ [])
-    w
+    namedIn (command.Begin ∷ command.Message ∷ command.Search ∷ command.Keys ∷ command.Build ∷ command.Check ∷ benchCommands) w
 
 -- how many words follow a command
 abbrev pub fieldCount : Command → ℕ
@@ -154,6 +152,7 @@ fieldCount command.Keys = 3
 fieldCount command.Build = 3
 fieldCount command.Check = 3
 fieldCount command.Store = 1
+fieldCount command.Edition = 1
 fieldCount command.Show = 0
 fieldCount command.Empty = 0
 fieldCount command.Help = 0

@@ -5,7 +5,7 @@ ghost use lib.ListN.{getD};
 ghost use Prim.Native.Nat.{_≤_, _<_, _+_, _*_, _^_};
 ghost use Rattle.octets.specs.Bytes.{same as isSame};
 ghost use Rattle.lines.specs.Words.{word as wordOf};
-ghost use Rattle.lines.specs.Orders.{hexField, decimalField, bytesField, Reads, beginOrder, searchOrder, keysOrder, unitField, onUnit, bytesOrder, fieldsOrder, pickNamed, commandOf, fieldCount, hasWord, commandOrder, orderOf};
+ghost use Rattle.lines.specs.Orders.{hexField, decimalField, bytesField, Reads, beginOrder, searchOrder, keysOrder, editionOrder, unitField, onUnit, bytesOrder, fieldsOrder, pickNamed, namedIn, benchCommands, commandOf, fieldCount, hasWord, commandOrder, orderOf};
 use crate::digits::are_digits;
 use crate::digits::number;
 use crate::words::same;
@@ -19,6 +19,7 @@ pub enum Command {
     Build,
     Check,
     Store,
+    Edition,
     Show,
     Empty,
     Help,
@@ -52,6 +53,8 @@ pub enum Order {
     Build(u32, bool),
     Check(u32, bool),
     Store,
+    // Whether it is edition 2.
+    Edition(bool),
     Show,
     Empty,
     Help,
@@ -182,6 +185,15 @@ fn keys(line: &[u8]) -> Order
     }
 }
 
+fn edition(line: &[u8]) -> Order
+    ensures { λ r. ⌜ r ≡ editionOrder (now (line .entry)) ⌝ }
+{
+    match decimal_field(line, 1, 1, 2) {
+        Field::Value(v) => Order::Edition(v == 2),
+        Field::Bad(f) => Order::Bad(f, Command::Edition),
+    }
+}
+
 // The destination and the direction of a unit; its bytes or its user data stand behind them.
 fn unit_field(line: &[u8]) -> UnitField
     ensures { λ r. ⌜ r ≡ unitField (now (line .entry)) ⌝ }
@@ -230,15 +242,23 @@ fn or_else(w: &[u8], text: &[u8], command: Command, others: Named) -> Named
     others
 }
 
-// The command that a word names.
-fn command_of(w: &[u8]) -> Named
-    ensures { λ r. ⌜ r ≡ commandOf (now (w .entry)) ⌝ }
+// The command for the bench itself that a word names.
+fn bench_command_of(w: &[u8]) -> Named
+    ensures { λ r. ⌜ r ≡ namedIn benchCommands (now (w .entry)) ⌝ }
 {
     let help = or_else(w, b"help", Command::Help, Named::Unknown);
     let empty = or_else(w, b"empty", Command::Empty, help);
     let show = or_else(w, b"show", Command::Show, empty);
-    let store = or_else(w, b"store", Command::Store, show);
-    let check = or_else(w, b"check", Command::Check, store);
+    let edition = or_else(w, b"edition", Command::Edition, show);
+    or_else(w, b"store", Command::Store, edition)
+}
+
+// The command that a word names.
+fn command_of(w: &[u8]) -> Named
+    ensures { λ r. ⌜ r ≡ commandOf (now (w .entry)) ⌝ }
+{
+    let bench = bench_command_of(w);
+    let check = or_else(w, b"check", Command::Check, bench);
     let build = or_else(w, b"build", Command::Build, check);
     let keys = or_else(w, b"keys", Command::Keys, build);
     let search = or_else(w, b"search", Command::Search, keys);
@@ -258,6 +278,7 @@ fn field_count(command: Command) -> usize
         Command::Build => 3,
         Command::Check => 3,
         Command::Store => 1,
+        Command::Edition => 1,
         Command::Show => 0,
         Command::Empty => 0,
         Command::Help => 0,
@@ -283,6 +304,7 @@ fn read_fields(command: Command, line: &[u8]) -> Order
         Command::Build => build(line),
         Command::Check => check(line),
         Command::Store => with_bytes(line, Command::Store, Order::Store),
+        Command::Edition => edition(line),
         Command::Show => Order::Show,
         Command::Empty => Order::Empty,
         Command::Help => Order::Help,

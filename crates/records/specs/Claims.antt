@@ -4,9 +4,8 @@ use mathlib.Core.Bool.{true}
 use mathlib.Core.List.{List}
 use mathlib.Core.Path.{_≡_}
 use Prim.Native.Nat.{ℕ, _<_}
-use Rattle.store.specs.Layout.{edition1}
-use Rattle.store.specs.Store.{keyCount, peerCount, sound}
-use Rattle.runs.specs.Alike.{inStoreKey, DifferAt}
+use Rattle.store.specs.Store.{keyCount, peerCount}
+use Rattle.runs.specs.Alike.{inStoreKey, DifferAt, isSound}
 use Rattle.records.specs.Records.{recordOf, peerOf}
 
 -- the counts, every record and every peer
@@ -16,6 +15,6 @@ pub record ShownAlike (s s' : List ℕ) : Type 0 where
   pub same-record : (i : ℕ) → recordOf s i ≡ recordOf s' i
   pub same-peer : (j : ℕ) → peerOf s j ≡ peerOf s' j
 
--- a sound store, and one that differs from it at most inside KMAC fields
+-- a sound store of either edition, and one that differs from it at most inside KMAC fields
 abbrev pub ShowsNoKey : Type 0
-ShowsNoKey = (s s' : List ℕ) → sound edition1 s ≡ true → DifferAt (inStoreKey s) s s' → ShownAlike s s'
+ShowsNoKey = (s s' : List ℕ) → isSound s ≡ true → DifferAt (inStoreKey s) s s' → ShownAlike s s'

@@ -3,7 +3,7 @@
 use mathlib.Core.List.{List}
 use Prim.Native.Nat.{ℕ, _+_, _*_}
 use Rattle.octets.specs.Bytes.{get16, get32}
-use Rattle.store.specs.Layout.{recordAt, peersAt, edition1}
+use Rattle.store.specs.Layout.{recordAt}
 use Rattle.records.specs.declared.Record.{Record}
 
 -- the record of index i
@@ -18,6 +18,6 @@ recordOf s i =
       count = get16 s (recordAt i + 42);
     }
 
--- the peer of index j
+-- the peer of index j, behind the offset of peers that the header has
 abbrev pub peerOf : List ℕ → ℕ → ℕ
-peerOf s j = get32 s (peersAt edition1 + 4 * j)
+peerOf s j = get32 s (get16 s 8 + 4 * j)

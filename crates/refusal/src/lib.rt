@@ -3,7 +3,7 @@ ghost use mathlib.Core.Path.{_≡_};
 ghost use Rattle.refusal.specs.House.{houseNumber};
 
 pub enum Refusal {
-    // H1: the store buffer is not 3,852 bytes.
+    // H1: the store buffer has the length of no edition, neither 3,852 nor 38,012 bytes.
     StoreLength,
     // H2: the output buffer is under 1,032 bytes.
     OutputLength,

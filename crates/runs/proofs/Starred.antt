@@ -1,4 +1,4 @@
--- Document 01's starred numbers, computed.
+-- Document 01's starred numbers and those of edition 2, computed.
 -- Assumes nothing.
 use mathlib.Core.Path.{_≡_, refl}
 use mathlib.Core.Bool.{true}
@@ -12,8 +12,12 @@ use Rattle.store.specs.Request.{firstReason, result, done, after, work}
 use Rattle.message.specs.Header.{kindOf}
 use Rattle.message.specs.Body.{sizeAt, fieldsOk, requestAt, fieldsFrom, requestsFrom, requests, bodyOk}
 use Rattle.session.specs.Rules.{respond, firstFailed, verdict, obey, inState, receiveIn, receive}
-use Rattle.runs.specs.Starred.{hold, starred}
+use Rattle.runs.specs.Starred.{hold, starred, larger}
 
 pub starred-hold : hold starred ≡ true
 unfolding hold starred same receive receiveIn editionOf editionIn inState verdict firstFailed obey respond kindOf bodyOk fieldsFrom fieldsOk sizeAt requests requestsFrom requestAt work after result firstReason done placeWhere peersOf encode header keyRecord keyRecords words numbers elem entries entriesFrom sound allHold headerOk countsOk sumsOk sumBefore uniqueOk newKey parityOk allOdd unusedOk allBelow allZero part splice ones find findIn
 starred-hold = refl
+
+pub larger-hold : hold larger ≡ true
+unfolding hold larger same receive receiveIn editionOf editionIn inState verdict firstFailed obey respond kindOf bodyOk fieldsFrom fieldsOk sizeAt requests requestsFrom requestAt work after result firstReason done placeWhere peersOf encode header keyRecord keyRecords words numbers elem entries entriesFrom sound allHold headerOk countsOk sumsOk sumBefore uniqueOk newKey parityOk allOdd unusedOk allBelow allZero part splice ones find findIn
+larger-hold = refl

@@ -13,7 +13,7 @@ use borrow.Author.Tests.{eqb-true, ltb-true}
 use Rattle.octets.specs.Bytes.{be16, be32, part, splice, allZero, same, allBelow}
 use Rattle.octets.specs.Words.{numbers, words}
 use Rattle.octets.proofs.BoolLaws.{clash, and-left, and-right}
-use Rattle.store.specs.Layout.{edition1, editionIn, editionOf}
+use Rattle.store.specs.Layout.{edition1, edition2, editionIn, editionOf}
 use Rattle.store.specs.Store.{peersOf, header, keyRecord, keyRecords, encode, entriesFrom, entries, allHold, headerOk, countsOk, sumBefore, sumsOk, newKey, uniqueOk, allOdd, parityOk, unusedOk, sound}
 use Rattle.store.specs.Search.{placeWhere}
 use Rattle.store.specs.Request.{firstReason, result, done, after, work}
@@ -189,3 +189,25 @@ no-trace-left : final (deleted 1) (world 1) .store ≡ final (deleted 7) (world 
 no-trace-left =
     secrecy .runs (deleted 1) (deleted 7) (world 1) (world 7) refl alike-holds
     (alike-message (adding 1) (adding 7) out alike-adding (alike-message deleting deleting out alike-deleting no-calls)) .no-trace (ap noneUnlike (tallies .1))
+
+-- ---- edition 2
+
+abbrev holds-2 : ℕ → List ℕ
+holds-2 k = encode edition2 (record { issuer = 3; serial = 4; kmac = replicate 24 k; start = 10; end = 20; peers = 8 ∷ [] } ∷ [])
+
+alike-holds-2 : AlikeStores (holds-2 1) (holds-2 7)
+unfolding alikeTest byteTest inStoreKey inRecordKey editionOf editionIn peersOf encode header keyRecord keyRecords words sound allHold headerOk countsOk sumsOk sumBefore uniqueOk newKey parityOk allOdd unusedOk allBelow allZero part ones
+alike-holds-2 = test-stores (holds-2 1) (holds-2 7) refl refl refl
+
+abbrev world-2 : ℕ → World
+world-2 k = record { session = expecting 5; store = holds-2 k }
+
+tallies-2 : (tallyOf (added 1) (added 7) (world-2 1) (world-2 7) ≡ record { issuer = 3; serial = 4; unlike = true } ∷ record { issuer = 3; serial = 5; unlike = true } ∷ [])
+    × (tallyOf (deleted 1) (deleted 7) (world-2 1) (world-2 7) ≡ [])
+unfolding tags tallyFrom allSeen seen next allTagged tagged without same receive receiveIn editionOf editionIn inState verdict firstFailed obey respond kindOf bodyOk fieldsFrom fieldsOk sizeAt requests requestsFrom requestAt work after result firstReason done placeWhere peersOf encode header keyRecord keyRecords words numbers entries entriesFrom sound allHold headerOk countsOk sumsOk sumBefore uniqueOk newKey parityOk allOdd unusedOk allBelow allZero part splice ones
+tallies-2 = (refl, refl)
+
+no-trace-left-2 : final (deleted 1) (world-2 1) .store ≡ final (deleted 7) (world-2 7) .store
+no-trace-left-2 =
+    secrecy .runs (deleted 1) (deleted 7) (world-2 1) (world-2 7) refl alike-holds-2
+    (alike-message (adding 1) (adding 7) out alike-adding (alike-message deleting deleting out alike-deleting no-calls)) .no-trace (ap noneUnlike (tallies-2 .1))

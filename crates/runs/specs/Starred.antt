@@ -1,4 +1,4 @@
--- Document 01's numbers to work by hand: those marked *, as one list.
+-- Document 01's numbers to work by hand: those marked *, as one list. And those of edition 2 (document 02, change request 5).
 -- Assumes nothing.
 use mathlib.Core.List.{List, [], _∷_, _++_}
 use mathlib.Core.Bool.{Bool, true, _&&_}
@@ -7,8 +7,9 @@ use lib.ListN.{length, replicate, drop}
 use Rattle.octets.specs.Bytes.{be16, be32, same}
 use Rattle.octets.specs.Words.{words}
 use Rattle.refusal.specs.House.{Answer, house, gives}
-use Rattle.store.specs.Layout.{edition1}
-use Rattle.store.specs.Store.{Entry, encode}
+use Rattle.store.specs.declared.Limits.{Limits}
+use Rattle.store.specs.Layout.{edition1, edition2}
+use Rattle.store.specs.Store.{Entry, encode, header as storeHeader}
 use Rattle.store.specs.Search.{find}
 use Rattle.message.specs.Written.{header}
 use Rattle.session.specs.declared.Session.{Session}
@@ -40,15 +41,18 @@ holding serial a b peers = record { issuer = 3; serial = serial; kmac = key; sta
 
 -- ---- what comes back
 
-abbrev pub outcome : List Entry → ℕ → List ℕ → Outcome
-outcome es n m = receive (expecting n) m (encode edition1 es) (replicate 1032 0)
+abbrev pub outcome : List ℕ → ℕ → List ℕ → Outcome
+outcome s n m = receive (expecting n) m s (replicate 1032 0)
 
 -- RESPONSE, REQ-NUM and RESULTs
+abbrev pub saysOn : List ℕ → ℕ → List ℕ → List ℕ
+saysOn s n m = drop 20 (replyOf (outcome s n m .answer) (outcome s n m .output))
+
 abbrev pub says : List Entry → ℕ → List ℕ → List ℕ
-says es n m = drop 20 (replyOf (outcome es n m .answer) (outcome es n m .output))
+says es n m = saysOn (encode edition1 es) n m
 
 abbrev pub expects : List Entry → ℕ → List ℕ → List ℕ
-expects es n m = outcome es n m .session .expected ∷ []
+expects es n m = outcome (encode edition1 es) n m .session .expected ∷ []
 
 -- the place, or 0 and the refusal's number
 abbrev pub placeOf : Answer → List ℕ
@@ -96,4 +100,42 @@ starred =
     ∷ (expects [] 65535 (from2to1 65535 1 (be16 1 ++ (be32 3 ++ be32 4))) is (0 ∷ []))
     -- length and receiver both wrong: 2
     ∷ (says [] 5 (header 21 9 2 9 5 2) is (2 ∷ 0 ∷ 0 ∷ []))
+    ∷ []
+
+-- ---- edition 2
+
+abbrev pub adds : List ℕ → List ℕ
+adds peers = from2to1 5 0 (be16 1 ++ kStruct 3 6 1 key peers)
+
+abbrev pub replaces : List ℕ → List ℕ
+replaces peers = from2to1 5 4 (be16 1 ++ (be32 3 ++ (be32 5 ++ (be16 (length peers) ++ words peers))))
+
+abbrev pub deletesAll : List ℕ
+deletesAll = from2to1 5 2 []
+
+-- an empty store of an edition under the header of another
+abbrev pub headed : Limits → Limits → List ℕ
+headed L M = storeHeader L 0 0 ++ drop 12 (encode M [])
+
+unfoldable pub larger : List Example
+larger =
+    -- 3,997 peers used: add with 4 gives 255, with 3 gives 0
+    (saysOn (encode edition2 (holding 4 1 2 (replicate 3997 8) ∷ [])) 5 (adds (replicate 4 8)) is (0 ∷ 0 ∷ 1 ∷ 255 ∷ []))
+    ∷ (saysOn (encode edition2 (holding 4 1 2 (replicate 3997 8) ∷ [])) 5 (adds (replicate 3 8)) is (0 ∷ 0 ∷ 1 ∷ 0 ∷ []))
+    -- 4,000 used: replacing 10 by 10 gives 0, by 11 gives 255
+    ∷ (saysOn (encode edition2 (holding 4 1 2 (replicate 3990 8) ∷ holding 5 1 2 (replicate 10 8) ∷ [])) 5 (replaces (replicate 10 9)) is (0 ∷ 0 ∷ 1 ∷ 0 ∷ []))
+    ∷ (saysOn (encode edition2 (holding 4 1 2 (replicate 3990 8) ∷ holding 5 1 2 (replicate 10 8) ∷ [])) 5 (replaces (replicate 11 9)) is (0 ∷ 0 ∷ 1 ∷ 255 ∷ []))
+    -- the header of edition 1 in 38,012 bytes, and of edition 2 in 3,852: 6 and H12
+    ∷ (saysOn (headed edition1 edition2) 5 (adds (8 ∷ [])) is (6 ∷ 0 ∷ 0 ∷ []))
+    ∷ (saysOn (headed edition2 edition1) 5 (adds (8 ∷ [])) is (6 ∷ 0 ∷ 0 ∷ []))
+    ∷ (placeOf (find (headed edition1 edition2) 8 1) is (0 ∷ 12 ∷ []))
+    ∷ (placeOf (find (headed edition2 edition1) 8 1) is (0 ∷ 12 ∷ []))
+    -- delete all there: the empty store of the edition whose length the buffer has
+    ∷ (outcome (headed edition1 edition2) 5 deletesAll .store is encode edition2 [])
+    ∷ (outcome (headed edition2 edition1) 5 deletesAll .store is encode edition1 [])
+    -- a byte less, and a byte more: H1
+    ∷ (placeOf (find (drop 1 (encode edition1 [])) 8 1) is (0 ∷ 1 ∷ []))
+    ∷ (placeOf (find (0 ∷ encode edition1 []) 8 1) is (0 ∷ 1 ∷ []))
+    ∷ (placeOf (find (drop 1 (encode edition2 [])) 8 1) is (0 ∷ 1 ∷ []))
+    ∷ (placeOf (find (0 ∷ encode edition2 []) 8 1) is (0 ∷ 1 ∷ []))
     ∷ []

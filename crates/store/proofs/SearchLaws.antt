@@ -41,7 +41,7 @@ editionIn-says (M ∷ Ls) n L a e = go (editionIn-says Ls n L (a .1)) (eqb n (to
 -- an edition that is known has numbers that fit, and this length
 pub editionOf-says : (n : ℕ) (L : Limits) → editionOf n ≡ Known L → Bounded L × (n ≡ total L)
 unfolding editionOf AllBounded
-editionOf-says n L e = editionIn-says editions n L (record { edition-fits = omega arith; total-fits = omega arith }, tt) e
+editionOf-says n L e = editionIn-says editions n L (record { edition-fits = omega arith; total-fits = omega arith }, (record { edition-fits = omega arith; total-fits = omega arith }, tt)) e
 
 -- ---- the lengths and counts of a sound store, and of its record i
 
@@ -131,9 +131,9 @@ module _ (s : List ℕ) (peer t p : ℕ) where
       let f : i ≡ p - 1 = omega arith in
       ap (λ (x : ℕ). keyOf (gives x) s) (sym e) ∙ ap (λ (x : ℕ). part s (12 + 44 * x + 8) 24) f
 
-  pub find-placed : find s peer t ≡ gives p → Placed s peer t p
-  unfolding find findIn key
-  find-placed e = known (editionOf (length s)) refl e
+  placed-in : (E : Edition) → find s peer t ≡ gives p → findIn E s peer t ≡ gives p → Placed s peer t p
+  unfolding findIn key
+  placed-in E e = known E
     where
       at-place : (L : Limits) (i n : ℕ) (b : Bool) → sound L s ≡ true → n ≡ keyCount s → ltb i n ≡ b → asks b 11 (gives (suc i)) ≡ gives p → Placed s peer t p
       at-place L i n true h en l q =
@@ -150,9 +150,13 @@ module _ (s : List ℕ) (peer t p : ℕ) where
           at-place L (chosen peer t (entries L s)) (length (entries L s)) (ltb (chosen peer t (entries L s)) (length (entries L s))) h (entries-length L s) refl q
       soundly L false h q = not-both 12 p q
 
-      known : (E : Edition) → editionOf (length s) ≡ E → findIn E s peer t ≡ gives p → Placed s peer t p
-      known Unknown h q = not-both 1 p q
-      known (Known L) h q = soundly L (sound L s) refl q
+      known : (E : Edition) → findIn E s peer t ≡ gives p → Placed s peer t p
+      known Unknown q = not-both 1 p q
+      known (Known L) q = soundly L (sound L s) refl q
+
+  pub find-placed : find s peer t ≡ gives p → Placed s peer t p
+  unfolding find
+  find-placed e = placed-in _ e e
 
 pub key-none : (s : List ℕ) (peer t n : ℕ) → find s peer t ≡ house n → key s peer t ≡ []
 unfolding key

@@ -1,21 +1,24 @@
 -- The claims of specs/Claims.antt.
 -- Assumes nothing.
-use mathlib.Core.Path.{_≡_, refl, sym, ap, _∙_}
+use mathlib.Core.Path.{_≡_, refl, sym, ap, subst, _∙_}
 use mathlib.Core.Bool.{Bool, true, false, _&&_}
 use mathlib.Core.List.{List}
+use mathlib.Core.Logic.{_⊎_, inl, inr, ⊎-elim}
 use Prim.Native.Nat.{ℕ, _≤_}
 use native.Mathlib.Omega.{arith}
-use lib.Dec.{leb, ltb}
+use lib.Dec.{leb, ltb, eqb}
 use lib.ListN.{length}
 use borrow.Author.Tests.{leb-true, le-ltb}
-use Rattle.refusal.specs.House.{house}
+use Rattle.refusal.specs.House.{house, asks}
 use Rattle.refusal.proofs.Laws.{not-both}
+use Rattle.store.specs.declared.Limits.{Limits}
 use Rattle.store.specs.declared.Edition.{Edition}
 use Rattle.store.specs.declared.Edition.the-variants.{Known, Unknown}
-use Rattle.store.specs.Layout.{editionOf}
-use Rattle.store.specs.Store.{encode}
-use Rattle.store.specs.Search.{emptyIn, emptied}
-use Rattle.store.specs.Claims.{OneStore, RequestsKeepSound, EmptyPeriodNeverFits, RefusedEmptyWritesNothing, OneAnswer}
+use Rattle.store.specs.Layout.{total, edition1, edition2, pickEdition, editionIn, editionOf}
+use Rattle.store.specs.Store.{encode, entries, sound}
+use Rattle.store.specs.Search.{chosen, placed, findIn, find, emptyIn, emptied}
+use Rattle.store.specs.Claims.{OneStore, HeaderSays, AcceptedSaysEdition, RequestsKeepSound, EmptyPeriodNeverFits, RefusedEmptyWritesNothing, OneAnswer}
+use Rattle.store.proofs.SoundLaws.{Sound, sound-says}
 use Rattle.store.proofs.DecodeLaws.{encode-entries}
 use Rattle.store.proofs.WellFormedLaws.{sound-wellFormed}
 use Rattle.store.proofs.EncodeLaws.{entries-encode, encode-sound, one-list}
@@ -32,6 +35,38 @@ one-store =
       one-list = one-list;
       one-store = λ L s t b c h k e. encode-entries L s b h ∙ ap (encode L) e ∙ sym (encode-entries L t c k);
     }
+
+header-says : (L : Limits) (s : List ℕ) → sound L s ≡ true → HeaderSays L s
+header-says L s h = let w : Sound L s = sound-says L s h in (w .edition-is, w .total-is, w .size)
+
+found-sound : (L : Limits) (s : List ℕ) (peer t : ℕ) → (findIn (Known L) s peer t ≡ house 12 → ⊥) → HeaderSays L s
+unfolding findIn
+found-sound L s peer t f = go (sound L s) refl
+  where
+    go : (b : Bool) → sound L s ≡ b → HeaderSays L s
+    go true h = header-says L s h
+    go false h = absurd (f (ap (λ (b : Bool). asks b 12 (placed (chosen peer t (entries L s)) (length (entries L s)))) h))
+
+known-edition : (n : ℕ) (L : Limits) → editionOf n ≡ Known L → (edition1 ≡ L) ⊎ (edition2 ≡ L)
+unfolding editionOf editionIn
+known-edition n L e = go (eqb n (total edition1)) (eqb n (total edition2)) e
+  where
+    go : (a b : Bool) → pickEdition a (Known edition1) (pickEdition b (Known edition2) Unknown) ≡ Known L → (edition1 ≡ L) ⊎ (edition2 ≡ L)
+    go true b q = inl cc
+    go false true q = inr cc
+    go false false q = let z : _≡_ {A = ℕ} 0 1 = cc in absurd (omega arith)
+
+found-edition : (E : Edition) (s : List ℕ) (peer t : ℕ) → ((L : Limits) → E ≡ Known L → (edition1 ≡ L) ⊎ (edition2 ≡ L)) → (findIn E s peer t ≡ house 1 → ⊥)
+    → (findIn E s peer t ≡ house 12 → ⊥) → HeaderSays edition1 s ⊎ HeaderSays edition2 s
+unfolding findIn
+found-edition Unknown s peer t k f g = absurd (f refl)
+found-edition (Known L) s peer t k f g =
+    let h : HeaderSays L s = found-sound L s peer t g in
+    ⊎-elim (λ e. inl (subst (λ (M : Limits). HeaderSays M s) (sym e) h)) (λ e. inr (subst (λ (M : Limits). HeaderSays M s) (sym e) h)) (k L refl)
+
+pub accepted-says-edition : AcceptedSaysEdition
+unfolding find
+accepted-says-edition = record { of-sound = header-says; of-find = λ s peer t f g. found-edition _ s peer t (known-edition _) f g }
 
 pub requests-keep-sound : RequestsKeepSound
 requests-keep-sound = record { kept = λ L own s b h rs f. work-sound L own s b h rs f }

@@ -3,16 +3,17 @@
 use mathlib.Core.Path.{_≡_}
 use mathlib.Core.Bool.{true, false}
 use mathlib.Core.List.{List}
+use mathlib.Core.Logic.{_⊎_}
 use Prim.Native.Nat.{ℕ, _≤_}
 use lib.ListN.{length}
-use Rattle.octets.specs.Bytes.{Bytes}
+use Rattle.octets.specs.Bytes.{Bytes, get16}
 use Rattle.refusal.specs.House.{house}
 use Rattle.store.specs.declared.Limits.{Limits}
 use Rattle.store.specs.declared.Found.{Found}
 use Rattle.store.specs.declared.Emptied.{Emptied}
-use Rattle.store.specs.Layout.{Bounded, editionOf}
+use Rattle.store.specs.Layout.{Bounded, total, edition1, edition2, editionOf}
 use Rattle.store.specs.Store.{Entry, encode, entries, sound}
-use Rattle.store.specs.Search.{fits, foundAs, emptiedAs, emptyIn, emptied}
+use Rattle.store.specs.Search.{fits, find, foundAs, emptiedAs, emptyIn, emptied}
 use Rattle.store.specs.Request.{Request, work}
 use Rattle.store.specs.WellFormed.{WellFormed, AllReadable}
 
@@ -24,6 +25,16 @@ pub record OneStore : Type 0 where
   pub encodes-back : (L : Limits) (es : List Entry) → Bounded L → WellFormed L es → entries L (encode L es) ≡ es
   pub one-list : (L : Limits) (es fs : List Entry) → Bounded L → WellFormed L es → WellFormed L fs → encode L es ≡ encode L fs → es ≡ fs
   pub one-store : (L : Limits) (s t : List ℕ) → Bytes s → Bytes t → sound L s ≡ true → sound L t ≡ true → entries L s ≡ entries L t → s ≡ t
+
+-- the header has the edition's number and its length, and the store is as long
+abbrev pub HeaderSays : Limits → List ℕ → Type 0
+HeaderSays L s = (get16 s 0 ≡ L .edition) × (get16 s 10 ≡ total L) × (length s ≡ total L)
+
+-- a store that is accepted has its edition and its length in its header: one that passes the test of soundness, and one that find refuses neither for
+-- its length nor as unsound
+pub record AcceptedSaysEdition : Type 0 where
+  pub of-sound : (L : Limits) (s : List ℕ) → sound L s ≡ true → HeaderSays L s
+  pub of-find : (s : List ℕ) (peer t : ℕ) → (find s peer t ≡ house 1 → ⊥) → (find s peer t ≡ house 12 → ⊥) → HeaderSays edition1 s ⊎ HeaderSays edition2 s
 
 -- every request, whatever its RESULT, keeps a sound store sound, over any list of requests and in any edition
 pub record RequestsKeepSound : Type 0 where

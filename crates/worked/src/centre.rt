@@ -21,6 +21,8 @@ pub const ISSUER: u32 = 0x01020304;
 
 pub const PEER: u32 = 0x11223344;
 
+pub const OTHER: u32 = 0x55667788;
+
 // A word of a KMAC of odd parity.
 const ODD: u32 = 0x01010101;
 
@@ -42,13 +44,14 @@ const CENTRE_START: u16 = 300;
 
 const FIRST: u16 = CENTRE_START + 1;
 
-// The lengths of the store and of the least output buffer.
-pub const STORE: usize = 3852;
+// The length of a message with no body.
+pub const LENGTH: u32 = 20;
 
+// The length of the least output buffer.
 const OUTPUT: usize = 1032;
 
-// Makes the buffer the empty store.
-pub fn fresh(s: &mut [u8; STORE]) {
+// Makes the buffer the empty store of its length.
+pub fn fresh(s: &mut [u8]) {
     store::empty(s);
 }
 
@@ -69,7 +72,7 @@ fn begun(out: &mut [u8]) -> Session {
 }
 
 // A session that the centre's session init with this number opens.
-pub fn opened(number: u16, s: &mut [u8; STORE]) -> Session {
+pub fn opened(number: u16, s: &mut [u8]) -> Session {
     let mut init = [0u8; HEAD];
     put_init(&mut init, CENTRE, OWN, number);
     let mut out = [0u8; OUTPUT];
@@ -84,7 +87,7 @@ fn deliver(
     session: Session,
     m: &[u8; MESSAGE_MOST],
     n: usize,
-    s: &mut [u8; STORE],
+    s: &mut [u8],
 ) -> Session {
     let mut out = [0u8; OUTPUT];
     let turn = session.receive(front(m, n), s, &mut out);
@@ -94,7 +97,7 @@ fn deliver(
 }
 
 // Sends a message of n bytes, whose length is still to be written, in a session of its own.
-fn send(name: &[u8], s: &mut [u8; STORE], m: &mut [u8; MESSAGE_MOST], n: usize) {
+fn send(name: &[u8], s: &mut [u8], m: &mut [u8; MESSAGE_MOST], n: usize) {
     if MESSAGE_MOST < n {
         return;
     }
@@ -132,25 +135,25 @@ fn k_structs(m: &mut [u8; MESSAGE_MOST], i: usize, first: Key, n: u16, step: u32
 }
 
 // One message with those n requests.
-pub fn add_keys(name: &[u8], s: &mut [u8; STORE], first: Key, n: u16, step: u32) {
+pub fn add_keys(name: &[u8], s: &mut [u8], first: Key, n: u16, step: u32) {
     let mut m = [0u8; MESSAGE_MOST];
     let i = command(&mut m, FIRST, ADD_KEYS, n);
     let size = k_structs(&mut m, i, first, n, step);
     send(name, s, &mut m, size);
 }
 
-pub fn add(name: &[u8], s: &mut [u8; STORE], serial: u32, count: u16) {
+pub fn add(name: &[u8], s: &mut [u8], serial: u32, count: u16) {
     add_keys(name, s, key(serial, count), 1, 0);
 }
 
-pub fn delete(name: &[u8], s: &mut [u8; STORE], issuer: u32, serial: u32) {
+pub fn delete(name: &[u8], s: &mut [u8], issuer: u32, serial: u32) {
     let mut m = [0u8; MESSAGE_MOST];
     let i = command(&mut m, FIRST, DELETE_KEYS, 1);
     let n = identifier(&mut m, i, issuer, serial);
     send(name, s, &mut m, n);
 }
 
-pub fn validity(name: &[u8], s: &mut [u8; STORE], serial: u32, start: u32, end: u32) {
+pub fn validity(name: &[u8], s: &mut [u8], serial: u32, start: u32, end: u32) {
     let mut m = [0u8; MESSAGE_MOST];
     let i = command(&mut m, FIRST, UPDATE_KEY_VALIDITIES, 1);
     let period_at = identifier(&mut m, i, ISSUER, serial);
@@ -159,7 +162,7 @@ pub fn validity(name: &[u8], s: &mut [u8; STORE], serial: u32, start: u32, end: 
 }
 
 // Replaces the peers by so many of this one.
-pub fn entities(name: &[u8], s: &mut [u8; STORE], serial: u32, peer: u32, count: u16) {
+pub fn entities(name: &[u8], s: &mut [u8], serial: u32, peer: u32, count: u16) {
     let mut m = [0u8; MESSAGE_MOST];
     let i = command(&mut m, FIRST, UPDATE_KEY_ENTITIES, 1);
     let peers_at = identifier(&mut m, i, ISSUER, serial);
@@ -174,7 +177,7 @@ pub fn delete_all(
     length: u32,
     receiver: u32,
     number: u16,
-    s: &mut [u8; STORE],
+    s: &mut [u8],
 ) -> Session {
     let mut m = [0u8; MESSAGE_MOST];
     let n = header(&mut m, length, receiver, number, DELETE_ALL_KEYS);

@@ -1,11 +1,13 @@
-// The worked numbers of document 01 that concern sessions and the store, a line for each case. Every store is built through messages.
+// The worked numbers of document 01 that concern sessions and the store, and those of edition 2, a line for each case. Every store is built through messages.
 mod centre;
+mod larger;
 mod print;
 mod wire;
 
 use centre::ISSUER;
+use centre::LENGTH;
+use centre::OTHER;
 use centre::PEER;
-use centre::STORE;
 use centre::add;
 use centre::add_keys;
 use centre::delete;
@@ -15,30 +17,29 @@ use centre::fresh;
 use centre::key;
 use centre::opened;
 use centre::validity;
+use larger::as_edition_2;
+use larger::larger;
 use print::counts;
 use print::found;
 use print::kmac;
 use print::nonzero;
 use print::records;
+use store::editions::LENGTH_1;
+use store::editions::LENGTH_2;
 use wire::Key;
 use wire::OWN;
-
-const OTHER: u32 = 0x55667788;
 
 // A word of the other's KMAC, of odd parity too.
 const OTHER_KMAC: u32 = 0x02020202;
 
 const STRANGER: u32 = 8;
 
-// The length of a message with no body.
-const LENGTH: u32 = 20;
-
 // The sequence number that zero follows.
 const LAST: u16 = 65535;
 
 // ---- limits
 
-fn first_keys(s: &mut [u8; STORE]) {
+fn first_keys(s: &mut [u8]) {
     fresh(s);
     delete(b"empty store, delete:", s, ISSUER, 1);
     add(b"one key:", s, 1, 1);
@@ -46,20 +47,20 @@ fn first_keys(s: &mut [u8; STORE]) {
     add_keys(b"one key twice in a message:", s, key(2, 1), 2, 0);
 }
 
-fn all_keys(s: &mut [u8; STORE]) {
+fn all_keys(s: &mut [u8]) {
     fresh(s);
     add_keys(b"64 keys:", s, key(1, 1), 64, 1);
     add(b"64 keys, add:", s, 65, 1);
     add(b"64 keys, add a held one:", s, 5, 1);
 }
 
-fn tenth_key(s: &mut [u8; STORE]) {
+fn tenth_key(s: &mut [u8]) {
     delete(b"delete the tenth:", s, ISSUER, 10);
     add(b"add:", s, 65, 1);
     records(s);
 }
 
-fn more_peers(s: &mut [u8; STORE]) {
+fn more_peers(s: &mut [u8]) {
     fresh(s);
     add(b"253 peers:", s, 1, 253);
     add(b"253 peers, add with 4:", s, 2, 4);
@@ -67,7 +68,7 @@ fn more_peers(s: &mut [u8; STORE]) {
     counts(s);
 }
 
-fn all_peers(s: &mut [u8; STORE]) {
+fn all_peers(s: &mut [u8]) {
     fresh(s);
     add(b"246 peers:", s, 1, 246);
     add(b"10 peers:", s, 2, 10);
@@ -86,7 +87,7 @@ fn bad_key(recipient: u32) -> Key {
     bad
 }
 
-fn bad_keys(s: &mut [u8; STORE]) {
+fn bad_keys(s: &mut [u8]) {
     fresh(s);
     add_keys(b"byte 00:", s, bad_key(OWN), 1, 0);
     add_keys(b"wrong recipient and byte 00:", s, bad_key(STRANGER), 1, 0);
@@ -103,14 +104,14 @@ fn moments_and_peers(s: &[u8]) {
     found(b"first byte of the peer:", s, 0x12223344, 5);
 }
 
-fn one_key(s: &mut [u8; STORE]) {
+fn one_key(s: &mut [u8]) {
     add(b"from 5 to 9:", s, 1, 1);
     moments_and_peers(s);
     delete(b"last byte of the serial:", s, ISSUER, 2);
     delete(b"first byte of the issuer:", s, 0x02020304, 1);
 }
 
-fn empty_period(s: &mut [u8; STORE]) {
+fn empty_period(s: &mut [u8]) {
     validity(b"from 5 to 5:", s, 1, 5, 5);
     found(b"start is end:", s, PEER, 5);
 }
@@ -128,25 +129,25 @@ fn both_peers(s: &[u8]) {
     kmac(b"the other's KMAC:", s, OTHER, 5);
 }
 
-fn three_keys(s: &mut [u8; STORE]) {
+fn three_keys(s: &mut [u8]) {
     add(b"a second for the peer:", s, 2, 3);
     add_keys(b"a third for another:", s, key_for_other(), 1, 0);
     both_peers(s);
 }
 
-fn replaced_peers(s: &mut [u8; STORE]) {
+fn replaced_peers(s: &mut [u8]) {
     entities(b"the second for two of the other:", s, 2, OTHER, 2);
     found(b"the other now:", s, OTHER, 5);
     counts(s);
 }
 
-fn first_removed(s: &mut [u8; STORE]) {
+fn first_removed(s: &mut [u8]) {
     delete(b"delete the first:", s, ISSUER, 1);
     records(s);
     found(b"the other then:", s, OTHER, 5);
 }
 
-fn all_removed(s: &mut [u8; STORE]) {
+fn all_removed(s: &mut [u8]) {
     delete(b"delete the third:", s, ISSUER, 3);
     delete(b"delete the second:", s, ISSUER, 2);
     nonzero(s);
@@ -163,13 +164,13 @@ fn refusals(s: &mut [u8]) {
 
 // ---- sessions
 
-fn all_deleted(s: &mut [u8; STORE]) {
+fn all_deleted(s: &mut [u8]) {
     let session = opened(0, s);
     delete_all(b"delete all:", session, LENGTH, OWN, 1, s);
     found(b"delete all, the peer:", s, PEER, 5);
 }
 
-fn last_number(s: &mut [u8; STORE]) {
+fn last_number(s: &mut [u8]) {
     let session = opened(LAST - 1, s);
     let next = delete_all(
         b"expected 65535, received 65535:",
@@ -182,7 +183,7 @@ fn last_number(s: &mut [u8; STORE]) {
     delete_all(b"then received 0:", next, LENGTH, OWN, 0, s);
 }
 
-fn wrong_header(s: &mut [u8; STORE]) {
+fn wrong_header(s: &mut [u8]) {
     let session = opened(0, s);
     delete_all(
         b"length and receiver both wrong:",
@@ -196,7 +197,7 @@ fn wrong_header(s: &mut [u8; STORE]) {
 
 // ---- all cases, in order
 
-fn limits(s: &mut [u8; STORE]) {
+fn limits(s: &mut [u8]) {
     first_keys(s);
     all_keys(s);
     tenth_key(s);
@@ -204,7 +205,7 @@ fn limits(s: &mut [u8; STORE]) {
     all_peers(s);
 }
 
-fn searches(s: &mut [u8; STORE]) {
+fn searches(s: &mut [u8]) {
     bad_keys(s);
     one_key(s);
     empty_period(s);
@@ -215,11 +216,18 @@ fn searches(s: &mut [u8; STORE]) {
     refusals(s);
 }
 
+fn smaller(s: &mut [u8]) {
+    limits(s);
+    searches(s);
+    all_deleted(s);
+    last_number(s);
+    wrong_header(s);
+}
+
 fn main() {
-    let mut s = [0u8; STORE];
-    limits(&mut s);
-    searches(&mut s);
-    all_deleted(&mut s);
-    last_number(&mut s);
-    wrong_header(&mut s);
+    let mut s = [0u8; LENGTH_1];
+    smaller(&mut s);
+    let mut t = [0u8; LENGTH_2];
+    larger(&mut t);
+    as_edition_2(&mut s);
 }

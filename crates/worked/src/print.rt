@@ -1,5 +1,4 @@
 // What the cases print: a line each.
-use crate::centre::STORE;
 use crate::wire::front;
 use libc::STDOUT_FILENO;
 use message::written::HEAD;
@@ -100,7 +99,10 @@ pub fn kmac(name: &[u8], s: &[u8], peer: u32, t: u32) {
 }
 
 // Key count and peer count.
-pub fn counts(s: &[u8; STORE]) {
+pub fn counts(s: &[u8]) {
+    if s.len() < KEYS_AT {
+        return;
+    }
     text(b"counts:");
     number(number_at(s, 2) as u64);
     number(number_at(s, 6) as u64);
@@ -127,7 +129,10 @@ fn serials(s: &[u8], n: usize) {
 }
 
 // The serials in store order.
-pub fn records(s: &[u8; STORE]) {
+pub fn records(s: &[u8]) {
+    if s.len() < KEYS_AT {
+        return;
+    }
     text(b"records:");
     serials(s, number_at(s, 2));
     text(b"\n");
@@ -146,8 +151,15 @@ fn count(s: &[u8]) -> usize {
     n
 }
 
-pub fn nonzero(s: &[u8; STORE]) {
+pub fn nonzero(s: &[u8]) {
     text(b"bytes not zero:");
     number(count(s) as u64);
+    text(b"\n");
+}
+
+// The bytes of the header.
+pub fn header(s: &[u8]) {
+    text(b"header:");
+    bytes(front(s, KEYS_AT), 0);
     text(b"\n");
 }

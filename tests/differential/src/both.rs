@@ -4,6 +4,7 @@ use reference::refusal::H5;
 
 use crate::compare::{buffers, numbers, Compared, Difference};
 use crate::coverage::{Call, Coverage};
+use crate::layout::KEYS_AT;
 use crate::library::{Library, SessionBytes};
 use crate::model;
 use crate::wire::RESPONSE_AT;
@@ -68,8 +69,8 @@ impl Both {
         Ok(answer)
     }
 
-    /// Gives the answer; the world has then what both left.
-    pub fn receive(&mut self, world: &mut World, message: &[u8], out: &[u8]) -> Step<i32> {
+    /// Gives the reply, empty where there is none; the world has then what both left.
+    pub fn receive(&mut self, world: &mut World, message: &[u8], out: &[u8]) -> Step<Vec<u8>> {
         self.calls += 1;
         let before = world.clone();
         let mut written = out.to_vec();
@@ -81,7 +82,7 @@ impl Both {
             &mut got_world.store,
             &mut got_out,
         );
-        let call = || receive_call(&before.session, message, out.len());
+        let call = || receive_call(&before, message, out.len());
         named(call, || {
             numbers("answer", answer.into(), got?.into())?;
             buffers("session", &world.session, &got_world.session)?;
@@ -89,17 +90,18 @@ impl Both {
             buffers("output", &written, &got_out)?;
             demand_1(&before, &got_world, answer, out, &got_out)
         })?;
-        self.seen.received(message, answer, &written);
-        Ok(answer)
+        self.seen.received(&before.store, message, answer, &written);
+        written.truncate(usize::try_from(answer).unwrap_or(0));
+        Ok(written)
     }
 
     pub fn find(&mut self, store: &[u8], peer: u32, t: u32) -> Step<i32> {
         self.calls += 1;
         let answer = model::find(store, peer, t);
         let got = self.library.find(store, peer, t);
-        let call = || format!("kmac_find, peer {peer:08x}, t {t:08x}");
+        let call = || find_call(store, peer, t);
         named(call, || numbers("answer", answer.into(), got?.into()))?;
-        self.seen.answer(Call::Find, answer);
+        self.seen.answer_over(store, Call::Find, answer);
         Ok(answer)
     }
 
@@ -183,7 +185,7 @@ impl Both {
             numbers("answer", answer.into(), got?.into())?;
             buffers("store", &emptied, &got_store)
         })?;
-        self.seen.answer(Call::EmptyStore, answer);
+        self.seen.answer_over(store, Call::EmptyStore, answer);
         Ok(())
     }
 }
@@ -214,13 +216,30 @@ pub fn named(
     })
 }
 
-/// The function, the session's state and the start of the message, for whoever looks for the fault.
-pub fn receive_call(session: &SessionBytes, message: &[u8], out: usize) -> String {
+/// The function, the session's state, the store's length and counts and the start of the message,
+/// for whoever looks for the fault.
+pub fn receive_call(before: &World, message: &[u8], out: usize) -> String {
     let head: String = message
         .iter()
         .take(48)
         .map(|b| format!("{b:02x}"))
         .collect();
-    let (state, length) = (session[0], message.len());
-    format!("kmac_receive, state {state}, output of {out} bytes, message of {length} bytes, {head}")
+    let (state, length) = (before.session[0], message.len());
+    let lent = format!("{}, output of {out} bytes", store_of(&before.store));
+    format!("kmac_receive, state {state}, {lent}, message of {length} bytes, {head}")
+}
+
+pub fn find_call(store: &[u8], peer: u32, t: u32) -> String {
+    let store = store_of(store);
+    format!("kmac_find, {store}, peer {peer:08x}, t {t:08x}")
+}
+
+/// The length and the first bytes of a store: edition and counts stand there.
+fn store_of(store: &[u8]) -> String {
+    let head: String = store
+        .iter()
+        .take(KEYS_AT)
+        .map(|b| format!("{b:02x}"))
+        .collect();
+    format!("store of {} bytes, {head}", store.len())
 }

@@ -42,6 +42,10 @@ pub fn numbers(of: &'static str, expected: i64, got: i64) -> Compared {
 /// Two buffers of one length.
 pub fn buffers(of: &'static str, expected: &[u8], got: &[u8]) -> Compared {
     numbers(of, expected.len() as i64, got.len() as i64)?;
+    // A store has 38,012 bytes: equal buffers, which are nearly all, are compared at once.
+    if expected == got {
+        return Ok(());
+    }
     match (0..expected.len()).find(|&i| expected[i] != got[i]) {
         None => Ok(()),
         Some(i) => Err(Difference {

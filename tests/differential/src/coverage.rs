@@ -1,10 +1,15 @@
-//! Which answers were seen, and which of those that document 01 can give were not.
+//! Which answers were seen over stores of each edition, and which of those that document 01 can
+//! give were not.
 
 use std::collections::BTreeMap;
 use std::fmt;
 
 use reference::message::kind;
+use reference::message::response::UNRECOVERABLE_DATABASE;
+use reference::refusal::{H1, H12};
+use reference::store::{Edition, EDITIONS};
 
+use crate::layout::has_other_header;
 use crate::wire::{RESPONSE_AT, RESULTS_AT, TYPE_AT};
 
 #[derive(Clone, Copy, PartialEq, Eq, PartialOrd, Ord, Debug)]
@@ -30,6 +35,8 @@ pub enum Mark {
     Response(u8),
     /// A message type and a RESULT.
     Result(u8, u8),
+    /// RESPONSE 6 or H12 for a store with the header of the edition that its length is not of.
+    HeaderOfOther(Call),
     /// A message with other KMACs in the second of two runs.
     OtherKmacs,
     /// A call after which two runs held a key unlike.
@@ -45,60 +52,120 @@ impl fmt::Display for Mark {
             Mark::Ended => write!(f, "session ended"),
             Mark::Response(response) => write!(f, "RESPONSE {response}"),
             Mark::Result(kind, result) => write!(f, "RESULT {result} of type {kind}"),
+            Mark::HeaderOfOther(call) => write!(f, "{call:?} with the other header"),
             Mark::OtherKmacs => write!(f, "message with other KMACs"),
             Mark::HeldUnlike => write!(f, "key held unlike"),
         }
     }
 }
 
+/// An answer, and the number of the edition that has stores of the lent length; none where no
+/// store is lent, or one whose length fits neither.
+#[derive(Clone, Copy, PartialEq, Eq, PartialOrd, Ord, Debug)]
+pub struct Seen {
+    edition: Option<u16>,
+    mark: Mark,
+}
+
+impl fmt::Display for Seen {
+    fn fmt(&self, f: &mut fmt::Formatter) -> fmt::Result {
+        match self.edition {
+            Some(number) => write!(f, "{} in edition {number}", self.mark),
+            None => write!(f, "{}", self.mark),
+        }
+    }
+}
+
 #[derive(Default)]
-pub struct Coverage(BTreeMap<Mark, u64>);
+pub struct Coverage(BTreeMap<Seen, u64>);
 
 impl Coverage {
-    pub fn see(&mut self, mark: Mark) {
-        *self.0.entry(mark).or_insert(0) += 1;
+    /// A mark of a call that lends this store.
+    pub fn see(&mut self, store: &[u8], mark: Mark) {
+        let edition = Edition::of_length(store.len()).map(|edition| edition.number);
+        self.count(Seen { edition, mark });
+    }
+
+    fn count(&mut self, seen: Seen) {
+        *self.0.entry(seen).or_insert(0) += 1;
+    }
+
+    /// The answer of a call that lends no store.
+    pub fn answer(&mut self, call: Call, answer: i32) {
+        self.answer_over(&[], call, answer);
     }
 
     /// A C answer: a negative one is a refusal.
-    pub fn answer(&mut self, call: Call, answer: i32) {
-        self.see(match u8::try_from(-answer) {
+    pub fn answer_over(&mut self, store: &[u8], call: Call, answer: i32) {
+        let mark = match u8::try_from(-answer) {
             Ok(house) if answer < 0 => Mark::Refused(call, house),
             _ => Mark::Given(call),
-        });
+        };
+        self.see(store, mark);
+        if mark == Mark::Refused(Call::Find, H12) && has_other_header(store) {
+            self.see(store, Mark::HeaderOfOther(call));
+        }
     }
 
-    /// What `receive` answered, and the RESPONSE and RESULTs of the reply that it wrote.
-    pub fn received(&mut self, message: &[u8], answer: i32, out: &[u8]) {
-        self.answer(Call::Receive, answer);
+    /// What `receive` answered over the store as it was before, and the RESPONSE and RESULTs of
+    /// the reply that it wrote.
+    pub fn received(&mut self, store: &[u8], message: &[u8], answer: i32, out: &[u8]) {
+        self.answer_over(store, Call::Receive, answer);
         let Some((&kind, length)) = message.get(TYPE_AT).zip(usize::try_from(answer).ok()) else {
             return;
         };
         if length == 0 {
             let opened = kind == kind::SESSION_INIT;
-            return self.see(if opened { Mark::Opened } else { Mark::Ended });
+            return self.see(store, if opened { Mark::Opened } else { Mark::Ended });
         }
-        if let Some(&response) = out.get(RESPONSE_AT) {
-            self.see(Mark::Response(response));
+        let Some(&response) = out.get(RESPONSE_AT) else {
+            return;
+        };
+        self.see(store, Mark::Response(response));
+        if response == UNRECOVERABLE_DATABASE && has_other_header(store) {
+            self.see(store, Mark::HeaderOfOther(Call::Receive));
         }
         for &result in out.get(RESULTS_AT..length).unwrap_or_default() {
-            self.see(Mark::Result(kind, result));
+            self.see(store, Mark::Result(kind, result));
         }
     }
 
-    pub fn missing(&self, required: &[Mark]) -> Vec<Mark> {
-        let unseen = |mark: &Mark| !self.0.contains_key(mark);
+    /// How many calls lent a store of this edition.
+    pub fn calls_over(&self, edition: Edition) -> u64 {
+        let is_call = |mark| matches!(mark, Mark::Given(_) | Mark::Refused(..));
+        let counts = self
+            .0
+            .iter()
+            .filter(|(seen, _)| seen.edition == Some(edition.number) && is_call(seen.mark));
+        counts.map(|(_, count)| count).sum()
+    }
+
+    pub fn missing(&self, required: &[Seen]) -> Vec<Seen> {
+        let unseen = |seen: &Seen| !self.0.contains_key(seen);
         required.iter().copied().filter(unseen).collect()
     }
 
     /// How many answers were required, and how often the rarest of them was seen.
-    pub fn summary(&self, required: &[Mark]) -> String {
-        let count = |mark: &Mark| self.0.get(mark).copied().unwrap_or(0);
-        let rarest = required.iter().min_by_key(|&mark| count(mark));
-        let rarest = rarest.map_or(String::new(), |mark| {
-            format!("{mark}, {} times", count(mark))
+    pub fn summary(&self, required: &[Seen]) -> String {
+        let count = |seen: &Seen| self.0.get(seen).copied().unwrap_or(0);
+        let rarest = required.iter().min_by_key(|&seen| count(seen));
+        let rarest = rarest.map_or(String::new(), |seen| {
+            format!("{seen}, {} times", count(seen))
         });
         format!("all {} answers seen, the rarest {rarest}", required.len())
     }
+}
+
+fn without_store(marks: Vec<Mark>) -> Vec<Seen> {
+    let edition = None;
+    let seen = |mark| Seen { edition, mark };
+    marks.into_iter().map(seen).collect()
+}
+
+fn in_each_edition(marks: Vec<Mark>) -> Vec<Seen> {
+    let numbers = EDITIONS.map(|edition| Some(edition.number));
+    let seen = |mark| numbers.map(|edition| Seen { edition, mark });
+    marks.into_iter().flat_map(seen).collect()
 }
 
 /// An answer of 0 or more, and the refusals.
@@ -116,11 +183,10 @@ fn results(kind: u8, results: &[u8]) -> Vec<Mark> {
     results.iter().map(mark).collect()
 }
 
-/// What begin, receive and find can answer from sound stores of the right length.
-fn of_sound_stores() -> Vec<Mark> {
+/// What begin, receive and find can answer from sound stores.
+fn of_sound_stores() -> Vec<Seen> {
     let responses = [0, 1, 2, 3, 4, 5, 9, 11].map(Mark::Response);
-    [
-        answers(Call::Begin, &[2, 6]),
+    let over_stores = [
         answers(Call::Receive, &[2, 3, 4, 5]),
         answers(Call::Find, &[11]),
         vec![Mark::Opened, Mark::Ended],
@@ -129,56 +195,89 @@ fn of_sound_stores() -> Vec<Mark> {
         results(kind::DELETE_KEYS, &[0, 1]),
         results(kind::UPDATE_KEY_VALIDITIES, &[0, 1]),
         results(kind::UPDATE_KEY_ENTITIES, &[0, 1, 255]),
+    ];
+    [
+        without_store(answers(Call::Begin, &[2, 6])),
+        in_each_edition(over_stores.concat()),
     ]
     .concat()
 }
 
-pub fn of_pairs() -> Vec<Mark> {
+pub fn of_pairs() -> Vec<Seen> {
     let unlike = vec![Mark::OtherKmacs, Mark::HeldUnlike];
-    [of_sound_stores(), unlike].concat()
+    [of_sound_stores(), in_each_edition(unlike)].concat()
 }
 
 /// What they can answer from any store.
-pub fn of_sessions() -> Vec<Mark> {
+pub fn of_sessions() -> Vec<Seen> {
+    let other_header = [Call::Receive, Call::Find].map(Mark::HeaderOfOther);
+    let of_unsound_stores = [
+        vec![Mark::Response(UNRECOVERABLE_DATABASE)],
+        refusals(Call::Find, &[H12]),
+        other_header.to_vec(),
+    ];
+    let of_other_lengths = [refusals(Call::Receive, &[H1]), refusals(Call::Find, &[H1])];
     [
         of_sound_stores(),
-        vec![Mark::Response(6)],
-        refusals(Call::Receive, &[1]),
-        refusals(Call::Find, &[1, 12]),
+        in_each_edition(of_unsound_stores.concat()),
+        without_store(of_other_lengths.concat()),
     ]
     .concat()
 }
 
 /// What the ciphers' and units' calls, and the empty store, can answer.
-pub fn of_units() -> Vec<Mark> {
-    [
+pub fn of_units() -> Vec<Seen> {
+    let without = [
         answers(Call::SessionKeys, &[13]),
         answers(Call::Build, &[2, 10, 13]),
         answers(Call::Check, &[7, 8, 9, 13]),
-        answers(Call::EmptyStore, &[1]),
+        refusals(Call::EmptyStore, &[H1]),
+    ];
+    [
+        without_store(without.concat()),
+        in_each_edition(vec![Mark::Given(Call::EmptyStore)]),
     ]
     .concat()
 }
 
 #[cfg(test)]
 mod tests {
-    use super::{of_sessions, of_units, Call, Coverage, Mark};
+    use super::{of_pairs, of_sessions, of_units, Call, Coverage, Mark};
+    use reference::store::{encode, EDITIONS, EDITION_1, EDITION_2};
 
     #[test]
     fn nothing_seen_is_all_missing() {
         let seen = Coverage::default();
-        assert_eq!(seen.missing(&of_sessions()), of_sessions());
-        assert_eq!(seen.missing(&of_units()), of_units());
+        for required in [of_sessions(), of_units(), of_pairs()] {
+            assert_eq!(seen.missing(&required), required);
+        }
     }
 
     #[test]
     fn one_unseen_answer_is_missing() {
         for unseen in of_sessions() {
             let mut seen = Coverage::default();
-            let others = of_sessions().into_iter().filter(|&mark| mark != unseen);
-            others.for_each(|mark| seen.see(mark));
+            let others = of_sessions().into_iter().filter(|&other| other != unseen);
+            others.for_each(|other| seen.count(other));
             assert_eq!(seen.missing(&of_sessions()), [unseen]);
         }
+    }
+
+    #[test]
+    fn an_answer_in_one_edition_is_missing_in_the_other() {
+        let mut seen = Coverage::default();
+        let store = encode(EDITION_2, &[]);
+        for response in 0..=11 {
+            seen.see(&store, Mark::Response(response));
+        }
+        let missing = seen.missing(&of_sessions());
+        let is_response = |mark| matches!(mark, Mark::Response(_));
+        let responses: Vec<_> = missing
+            .into_iter()
+            .filter(|seen| is_response(seen.mark))
+            .collect();
+        assert_eq!(responses.len(), 9);
+        assert!(responses.iter().all(|seen| seen.edition == Some(1)));
     }
 
     #[test]
@@ -186,27 +285,56 @@ mod tests {
         let message = [0; 20];
         let mut out = [0; 1032];
         out[23..26].copy_from_slice(&[0, 3, 255]);
-        let mut seen = Coverage::default();
-        seen.received(&message, 26, &out);
-        let marks = [
-            Mark::Given(Call::Receive),
-            Mark::Response(0),
-            Mark::Result(0, 0),
-            Mark::Result(0, 3),
-            Mark::Result(0, 255),
-        ];
-        assert_eq!(seen.0.keys().copied().collect::<Vec<_>>(), marks);
+        for edition in EDITIONS {
+            let mut seen = Coverage::default();
+            seen.received(&encode(edition, &[]), &message, 26, &out);
+            let marks = [
+                Mark::Given(Call::Receive),
+                Mark::Response(0),
+                Mark::Result(0, 0),
+                Mark::Result(0, 3),
+                Mark::Result(0, 255),
+            ];
+            let number = Some(edition.number);
+            assert!(seen.0.keys().all(|seen| seen.edition == number));
+            assert_eq!(
+                seen.0.keys().map(|seen| seen.mark).collect::<Vec<_>>(),
+                marks
+            );
+            assert_eq!(seen.calls_over(edition), 1);
+        }
     }
 
     #[test]
     fn refusals_are_told_apart() {
         let mut seen = Coverage::default();
-        seen.answer(Call::Find, -12);
-        seen.answer(Call::Find, 3);
-        assert_eq!(
-            seen.missing(&[Mark::Refused(Call::Find, 12), Mark::Given(Call::Find)]),
-            []
-        );
-        assert_eq!(seen.missing(&[Mark::Refused(Call::Find, 11)]).len(), 1);
+        let store = encode(EDITION_1, &[]);
+        seen.answer_over(&store, Call::Find, -12);
+        seen.answer_over(&store, Call::Find, 3);
+        seen.answer_over(&store[1..], Call::Find, -1);
+        let marks: Vec<_> = seen
+            .0
+            .keys()
+            .map(|seen| (seen.edition, seen.mark))
+            .collect();
+        let expected = [
+            (None, Mark::Refused(Call::Find, 1)),
+            (Some(1), Mark::Given(Call::Find)),
+            (Some(1), Mark::Refused(Call::Find, 12)),
+        ];
+        assert_eq!(marks, expected);
+    }
+
+    #[test]
+    fn a_header_of_the_other_edition_is_told() {
+        for (edition, other) in [(EDITION_1, EDITION_2), (EDITION_2, EDITION_1)] {
+            let mut store = encode(edition, &[]);
+            store[..12].copy_from_slice(&encode(other, &[])[..12]);
+            let mut seen = Coverage::default();
+            seen.answer_over(&store, Call::Find, -12);
+            let marks: Vec<_> = seen.0.keys().map(|seen| seen.mark).collect();
+            let refused = Mark::Refused(Call::Find, 12);
+            assert_eq!(marks, [refused, Mark::HeaderOfOther(Call::Find)]);
+        }
     }
 }

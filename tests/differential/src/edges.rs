@@ -3,8 +3,10 @@
 
 use reference::message::kind;
 use reference::session::{CLOSED, OPEN, WAITING};
+use reference::store::{Edition, EDITIONS, EDITION_1};
 
 use crate::both::{Both, Step, World};
+use crate::layout::LENGTHS;
 use crate::random::Random;
 use crate::scene::{Scene, OUTPUT};
 use crate::stores::other_digit;
@@ -12,23 +14,26 @@ use crate::wire::{self, LENGTH_MAX};
 use crate::wire::{RECEIVER_AT, SENDER_AT, SEQUENCE_AT, TYPE_AT, VERSION_AT};
 
 pub fn all(both: &mut Both, seed: u64) -> Step {
-    refusal_orders(both, seed)?;
-    every_bit(both, seed)?;
-    every_length(both, seed)?;
-    fault_orders(both, seed)?;
-    torn_add(both, seed)?;
-    sequence_numbers(both, seed)?;
-    session_bytes(both, seed)?;
-    session_inits(both, seed)?;
+    for edition in EDITIONS {
+        refusal_orders(both, edition, seed)?;
+        every_bit(both, edition, seed)?;
+        every_length(both, edition, seed)?;
+        fault_orders(both, edition, seed)?;
+        torn_add(both, edition, seed)?;
+        sequence_numbers(both, edition, seed)?;
+        session_bytes(both, edition, seed)?;
+        session_inits(both, edition, seed)?;
+    }
     begins(both, seed)
 }
 
-/// All of a wrong store length, output length, state and message length, together.
-fn refusal_orders(both: &mut Both, seed: u64) -> Step {
-    let mut scene = Scene::new(seed);
+/// All of a wrong store length, output length, state and message length, together. A length of
+/// the other edition has a header that does not fit it.
+fn refusal_orders(both: &mut Both, edition: Edition, seed: u64) -> Step {
+    let mut scene = Scene::new(edition, seed);
     let long = scene.long_delete();
     for state in [CLOSED, WAITING, OPEN, 3, 255] {
-        for store in [0, 12, 3851, 3852, 3853] {
+        for store in LENGTHS {
             for out in [0, 1, 1031, 1032, 1033] {
                 for length in [0, 1, 4, 19, 20, 21, 22, 4999, 5000, 5001, 5002] {
                     let mut message = long.clone();
@@ -58,7 +63,7 @@ impl Scene {
         self.message(kind::DELETE_KEYS, &wire::body(&requests))
     }
 
-    /// An add command of 5,000 bytes: 94 keys, which the store has no room for at its end.
+    /// An add command of 5,000 bytes: 94 keys.
     fn long_add(&mut self) -> Vec<u8> {
         let peer_count = |i: usize| if i < 46 { 2 } else { 1 };
         let requests: Vec<Vec<u8>> = (0..94).map(|i| self.k_struct(peer_count(i))).collect();
@@ -69,8 +74,8 @@ impl Scene {
 }
 
 /// Each bit of each message flipped, and each byte set to 0, one more and one less.
-fn every_bit(both: &mut Both, seed: u64) -> Step {
-    let mut scene = Scene::new(seed ^ 1);
+fn every_bit(both: &mut Both, edition: Edition, seed: u64) -> Step {
+    let mut scene = Scene::new(edition, seed ^ 1);
     for message in scene.messages() {
         for state in [WAITING, OPEN] {
             both.receive(&mut scene.world(state), &message, &OUTPUT)?;
@@ -93,8 +98,8 @@ fn wrong_bytes(byte: u8) -> Vec<u8> {
 }
 
 /// Each message cut at every byte and grown by up to three, the length field as it was or right.
-fn every_length(both: &mut Both, seed: u64) -> Step {
-    let mut scene = Scene::new(seed ^ 2);
+fn every_length(both: &mut Both, edition: Edition, seed: u64) -> Step {
+    let mut scene = Scene::new(edition, seed ^ 2);
     for message in scene.messages() {
         for state in [WAITING, OPEN] {
             for length in 0..message.len() + 4 {
@@ -118,15 +123,15 @@ fn cut(both: &mut Both, world: &World, message: &[u8], length: usize) -> Step {
 }
 
 /// Every set of faults in length, version, receiver, sender, sequence, type, body and store.
-fn fault_orders(both: &mut Both, seed: u64) -> Step {
-    let mut scene = Scene::new(seed ^ 3);
+fn fault_orders(both: &mut Both, edition: Edition, seed: u64) -> Step {
+    let mut scene = Scene::new(edition, seed ^ 3);
     for message in scene.messages() {
         for faults in 0..256u32 {
             for state in [WAITING, OPEN] {
                 let mut world = scene.world(state);
                 let wrong = with_faults(&mut scene.random, &message, faults & 0x7f);
                 if faults & 0x80 != 0 {
-                    world.store[3851] ^= 1;
+                    world.store[edition.length() - 1] ^= 1;
                 }
                 both.receive(&mut world, &wrong, &OUTPUT)?;
             }
@@ -164,11 +169,13 @@ fn with_faults(random: &mut Random, message: &[u8], faults: u32) -> Vec<u8> {
     wrong
 }
 
-/// A key list of 5,000 bytes torn at every byte, over the store that it would fill.
-fn torn_add(both: &mut Both, seed: u64) -> Step {
-    let mut scene = Scene::new(seed ^ 4);
+/// A key list of 5,000 bytes torn at every byte, over a store that has room for 50 of its 94 keys.
+fn torn_add(both: &mut Both, edition: Edition, seed: u64) -> Step {
+    let mut scene = Scene::new(edition, seed ^ 4);
     let message = scene.long_add();
-    let world = scene.world(OPEN);
+    let held = edition.keys_max - 50;
+    let entries = scene.names.entries(&mut scene.random, held, 4);
+    let world = scene.over(&entries);
     for length in 0..=message.len() + 1 {
         cut(both, &world, &message, length)?;
     }
@@ -176,9 +183,9 @@ fn torn_add(both: &mut Both, seed: u64) -> Step {
 }
 
 /// Numbers expected, received, own and begun with, around the wrap.
-fn sequence_numbers(both: &mut Both, seed: u64) -> Step {
+fn sequence_numbers(both: &mut Both, edition: Edition, seed: u64) -> Step {
     const NUMBERS: [u16; 8] = [0, 1, 255, 256, 32767, 32768, 65534, 65535];
-    let mut scene = Scene::new(seed ^ 5);
+    let mut scene = Scene::new(edition, seed ^ 5);
     for number in NUMBERS {
         for other in NUMBERS {
             for mut message in scene.messages() {
@@ -196,8 +203,8 @@ fn sequence_numbers(both: &mut Both, seed: u64) -> Step {
 }
 
 /// Every state code, with any bytes in the rest of the session.
-fn session_bytes(both: &mut Both, seed: u64) -> Step {
-    let mut scene = Scene::new(seed ^ 6);
+fn session_bytes(both: &mut Both, edition: Edition, seed: u64) -> Step {
+    let mut scene = Scene::new(edition, seed ^ 6);
     for message in scene.messages() {
         for state in 0..=255 {
             let mut world = scene.world(state);
@@ -214,8 +221,8 @@ fn session_bytes(both: &mut Both, seed: u64) -> Step {
 }
 
 /// Lists of every length with version 2 first, last, anywhere or nowhere, and a byte more or less.
-fn session_inits(both: &mut Both, seed: u64) -> Step {
-    let mut scene = Scene::new(seed ^ 8);
+fn session_inits(both: &mut Both, edition: Edition, seed: u64) -> Step {
+    let mut scene = Scene::new(edition, seed ^ 8);
     for count in 0..=255 {
         let places = [0, count.max(1) - 1, scene.random.below(count + 1), count];
         for place in places {
@@ -235,7 +242,7 @@ fn session_inits(both: &mut Both, seed: u64) -> Step {
 
 /// Identities that are equal or differ in one bit, numbers around the wrap, output lengths.
 fn begins(both: &mut Both, seed: u64) -> Step {
-    let mut scene = Scene::new(seed ^ 7);
+    let mut scene = Scene::new(EDITION_1, seed ^ 7);
     for number in [0, 1, 255, 256, 65534, 65535] {
         for bit in 0..=32 {
             for out in [0, 22, 23, 1031, 1032, 1033, 5000] {

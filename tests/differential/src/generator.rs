@@ -3,14 +3,15 @@
 
 use reference::message::kind;
 use reference::session::{Session, OPEN, WAITING};
-use reference::store::{decode, Entry, KeyIdentifier};
+use reference::store::{Edition, KeyIdentifier, EDITION_1, EDITION_2};
 
 use crate::both::World;
 use crate::damage::damage;
+use crate::layout::{entry_at, held};
 use crate::model::session_of;
 use crate::random::Random;
 use crate::stores::{other_digit, Names};
-use crate::wire::{self, Header, HEADER, LENGTH_MAX};
+use crate::wire::{self, Header, HEADER, LENGTH_MAX, PEER_NUM_MAX};
 
 pub enum Action {
     Begin { identities: (u32, u32), number: u16 },
@@ -23,6 +24,8 @@ pub struct Generator {
     pub names: Names,
     /// The most peers of a usual request.
     most_peers: usize,
+    /// Where many keys were deleted, a large store would take most of a round to fill again.
+    deletes_few: bool,
 }
 
 /// Sequence numbers, with those around the wrap often.
@@ -35,15 +38,23 @@ fn number(random: &mut Random) -> u16 {
 }
 
 impl Generator {
+    /// Two rounds of three are over edition 1, whose calls take a fraction of the time.
     pub fn new(seed: u64) -> Generator {
         let mut random = Random::new(seed);
-        let names = Names::new(&mut random);
+        let edition = random.pick(&[EDITION_1, EDITION_1, EDITION_2]);
+        let names = Names::new(edition, &mut random);
         let most_peers = random.pick(&[2, 4, 9, 40]);
+        let deletes_few = edition == EDITION_2 && !random.one_in(4);
         Generator {
             random,
             names,
             most_peers,
+            deletes_few,
         }
+    }
+
+    pub fn edition(&self) -> Edition {
+        self.names.edition
     }
 
     /// A buffer of random bytes for the call to write to; 1,032 bytes or more most often.
@@ -100,11 +111,11 @@ impl Generator {
     fn search(&mut self, world: &World) -> Action {
         let peer = u32::from_be_bytes(self.names.peer(&mut self.random));
         let any = self.names.moment(&mut self.random);
-        let held = decode(&world.store).unwrap_or_default();
-        if held.is_empty() || self.random.one_in(4) {
+        let held = held(&world.store);
+        if held == 0 || self.random.one_in(4) {
             return Action::Find { peer, t: any };
         }
-        let entry = &held[self.random.below(held.len())];
+        let entry = entry_at(&world.store, self.random.below(held));
         let edge = self.random.pick(&[entry.start, entry.end]);
         let t = edge
             .wrapping_add(self.random.below(3) as u32)
@@ -149,18 +160,18 @@ impl Generator {
     /// A command, end of update or a type that is not supported, with a right header.
     fn command(&mut self, session: &Session, store: &[u8]) -> Vec<u8> {
         let header = self.header(session);
-        let held = decode(store).unwrap_or_default();
         let kind = match self.random.below(100) {
             0..=46 => kind::ADD_KEYS,
             47..=62 => kind::DELETE_KEYS,
             63..=74 => kind::UPDATE_KEY_VALIDITIES,
             75..=90 => kind::UPDATE_KEY_ENTITIES,
+            91 if self.deletes_few && !self.random.one_in(10) => kind::ADD_KEYS,
             91 => kind::DELETE_ALL_KEYS,
             92..=93 => kind::END_OF_UPDATE,
             _ => self.random.pick(&[5, 6, 7, 8, 9, 11, 12, 13, 14, 200, 255]),
         };
         let body = match kind {
-            0 | 1 | 3 | 4 => self.requests(session, kind, &held),
+            0 | 1 | 3 | 4 => self.requests(session, kind, store),
             kind::SESSION_INIT => wire::init_body(&[2], 255),
             _ => Vec::new(),
         };
@@ -168,8 +179,9 @@ impl Generator {
     }
 
     /// A few requests, or as many as a message has room for.
-    fn requests(&mut self, session: &Session, kind: u8, held: &[Entry]) -> Vec<u8> {
+    fn requests(&mut self, session: &Session, kind: u8, store: &[u8]) -> Vec<u8> {
         let count = match self.random.below(20) {
+            0 | 1 if self.deletes_few && kind == kind::DELETE_KEYS => 2,
             0 => 500,
             1 => 250,
             2..=6 => 1,
@@ -179,7 +191,7 @@ impl Generator {
         let mut room = LENGTH_MAX - HEADER - 2;
         let mut requests = Vec::new();
         while requests.len() < count.min(most) {
-            let request = self.request(session, kind, held);
+            let request = self.request(session, kind, store);
             if request.len() > room {
                 break;
             }
@@ -189,10 +201,10 @@ impl Generator {
         wire::body(&requests)
     }
 
-    fn request(&mut self, session: &Session, kind: u8, held: &[Entry]) -> Vec<u8> {
-        let key = self.key(held);
+    fn request(&mut self, session: &Session, kind: u8, store: &[u8]) -> Vec<u8> {
+        let key = self.key(store);
         match kind {
-            kind::ADD_KEYS => self.add(session, held),
+            kind::ADD_KEYS => self.add(session, store),
             kind::DELETE_KEYS => wire::k_identifier(&key),
             kind::UPDATE_KEY_VALIDITIES => {
                 let start = self.names.moment(&mut self.random);
@@ -206,11 +218,12 @@ impl Generator {
     }
 
     /// A held key most often; else one that is close to a held one, or any.
-    fn key(&mut self, held: &[Entry]) -> KeyIdentifier {
-        if held.is_empty() || self.random.one_in(3) {
+    fn key(&mut self, store: &[u8]) -> KeyIdentifier {
+        let held = held(store);
+        if held == 0 || self.random.one_in(3) {
             return self.names.identifier(&mut self.random);
         }
-        let mut key = held[self.random.below(held.len())].key;
+        let mut key = entry_at(store, self.random.below(held)).key;
         match self.random.below(10) {
             0 => key.issuer = other_digit(&mut self.random, key.issuer),
             1 => key.serial = other_digit(&mut self.random, key.serial),
@@ -219,7 +232,7 @@ impl Generator {
         key
     }
 
-    fn add(&mut self, session: &Session, held: &[Entry]) -> Vec<u8> {
+    fn add(&mut self, session: &Session, store: &[u8]) -> Vec<u8> {
         let count = self.peer_count();
         let mut entry = self.names.entry(&mut self.random, count);
         let mut recipient = session.own;
@@ -230,17 +243,18 @@ impl Generator {
                 entry.kmac[at] ^= 1 << self.random.below(8);
             }
             2 => entry.kmac = self.random.array(),
-            3 => entry.key = self.key(held),
+            3 => entry.key = self.key(store),
             _ => {}
         }
         wire::k_struct(&recipient, &entry)
     }
 
-    /// Few peers most often, else about as many as a store holds, or more.
+    /// Few peers most often, else about as many as a store or a list holds, or more.
     fn peer_count(&mut self) -> usize {
+        let most = self.edition().peers_max.min(PEER_NUM_MAX);
         match self.random.below(60) {
-            0 => self.random.between(250, 260),
-            1 => self.random.between(1, 256),
+            0 => self.random.between(most - 6, most),
+            1 => self.random.between(1, most),
             2 => self.random.pick(&[256, 257, 1000, 1001]),
             _ => self.random.between(1, self.most_peers),
         }

@@ -13,8 +13,9 @@ impl Lent {
     pub fn new(content: &[u8], shift: u64) -> Lent {
         let start = GUARD + (shift % 16) as usize;
         let end = start + content.len();
-        let mut bytes: Vec<u8> = (0..end + GUARD).map(guard).collect();
-        bytes[start..end].copy_from_slice(content);
+        let mut bytes: Vec<u8> = (0..start).map(guard).collect();
+        bytes.extend(content);
+        bytes.extend((end..end + GUARD).map(guard));
         Lent { bytes, start, end }
     }
 
@@ -53,7 +54,7 @@ fn guard(i: usize) -> u8 {
 mod tests {
     use super::{Lent, GUARD};
 
-    const LENGTHS: [usize; 4] = [0, 1, 32, 3852];
+    const LENGTHS: [usize; 5] = [0, 1, 32, 3852, 38012];
 
     #[test]
     fn untouched_guards_are_whole() {

@@ -1,28 +1,42 @@
-//! Counts at and beyond their ranges, and stores that are full of keys or of peers.
+//! Counts at and beyond their ranges, and stores of each edition that are full of keys or of peers.
 
 use reference::message::kind;
-use reference::store::{Entry, KEYS_MAX, PEERS_MAX};
+use reference::store::{Edition, Entry, EDITIONS};
 
-use crate::both::{Both, Step, World};
+use crate::both::{named, receive_call, Both, Step, World};
+use crate::compare::buffers;
+use crate::layout::{identifier, key_count, peer_count};
+use crate::random::Random;
 use crate::scene::{Scene, OUTPUT};
-use crate::wire;
+use crate::wire::{self, LENGTH_MAX, PEER_NUM_MAX, RESULTS_AT};
 
 pub fn all(both: &mut Both, seed: u64) -> Step {
-    request_counts(both, seed)?;
-    peer_counts(both, seed)?;
-    full_of_keys(both, seed)?;
-    full_of_peers(both, seed)
+    for edition in EDITIONS {
+        request_counts(both, edition, seed)?;
+        peer_counts(both, edition, seed)?;
+        worked_keys(both, edition, seed)?;
+        worked_peers(both, edition, seed)?;
+        full_of_keys(both, edition, seed)?;
+        full_of_peers(both, edition, seed)?;
+        filled_and_emptied(both, edition, seed)?;
+    }
+    Ok(())
 }
 
-fn send(both: &mut Both, scene: &Scene, world: &mut World, kind: u8, body: &[u8]) -> Step {
+/// A command with the number that is expected.
+fn command(scene: &Scene, world: &World, kind: u8, body: &[u8]) -> Vec<u8> {
     let expected = u16::from_be_bytes([world.session[4], world.session[5]]);
-    let message = wire::message(&scene.header_with(expected), kind, body);
+    wire::message(&scene.header_with(expected), kind, body)
+}
+
+fn send(both: &mut Both, scene: &Scene, world: &mut World, kind: u8, requests: &[Vec<u8>]) -> Step {
+    let message = command(scene, world, kind, &wire::body(requests));
     both.receive(world, &message, &OUTPUT).map(|_| ())
 }
 
 /// REQ-NUM at the ends of each range, over as many requests, one fewer and one more.
-fn request_counts(both: &mut Both, seed: u64) -> Step {
-    let mut scene = Scene::new(seed ^ 11);
+fn request_counts(both: &mut Both, edition: Edition, seed: u64) -> Step {
+    let mut scene = Scene::new(edition, seed ^ 11);
     let key = scene.entries[0].key;
     let peers = scene.entries[0].peers[..1].to_vec();
     let requests = [
@@ -46,7 +60,8 @@ fn request_counts(both: &mut Both, seed: u64) -> Step {
                 let list = vec![request.clone(); usize::from(there)];
                 let body = wire::counted(count, &list);
                 let mut world = scene.over(&scene.entries);
-                send(both, &scene, &mut world, kind, &body)?;
+                let message = command(&scene, &world, kind, &body);
+                both.receive(&mut world, &message, &OUTPUT)?;
             }
         }
     }
@@ -54,8 +69,8 @@ fn request_counts(both: &mut Both, seed: u64) -> Step {
 }
 
 /// PEER-NUM at the ends of its range, over as many peers, one fewer and one more.
-fn peer_counts(both: &mut Both, seed: u64) -> Step {
-    let mut scene = Scene::new(seed ^ 12);
+fn peer_counts(both: &mut Both, edition: Edition, seed: u64) -> Step {
+    let mut scene = Scene::new(edition, seed ^ 12);
     let key = scene.entries[3].key;
     for count in [0, 1, 2, 255, 256, 257, 999, 1000, 1001, 1002, 65535] {
         for there in [count - 1, count, count + 1, 1, 0] {
@@ -67,67 +82,120 @@ fn peer_counts(both: &mut Both, seed: u64) -> Step {
             let mut entities = wire::k_entities(&key, &entry.peers);
             entities[8..10].copy_from_slice(&number);
             for (kind, request) in [(kind::ADD_KEYS, add), (kind::UPDATE_KEY_ENTITIES, entities)] {
-                let after = wire::k_identifier(&key);
                 let mut world = scene.over(&scene.entries);
-                send(both, &scene, &mut world, kind, &wire::body(&[request]))?;
-                send(
-                    both,
-                    &scene,
-                    &mut world,
-                    kind::DELETE_KEYS,
-                    &wire::body(&[after]),
-                )?;
+                send(both, &scene, &mut world, kind, &[request])?;
+                let delete = wire::k_identifier(&key);
+                send(both, &scene, &mut world, kind::DELETE_KEYS, &[delete])?;
             }
         }
     }
     Ok(())
 }
 
-/// 62, 63 and 64 keys: adds, each place deleted in turn, and an add in its room.
-fn full_of_keys(both: &mut Both, seed: u64) -> Step {
-    for held in KEYS_MAX - 2..=KEYS_MAX {
-        for place in 0..held {
-            let mut scene = Scene::new(seed ^ (13 + place as u64));
-            let entries = scene.names.entries(&mut scene.random, held, 4);
+/// One request whose RESULT the papers tell.
+fn gives(
+    both: &mut Both,
+    scene: &Scene,
+    world: &mut World,
+    (kind, request): (u8, Vec<u8>),
+    result: u8,
+) -> Step {
+    let before = world.clone();
+    let message = command(scene, world, kind, &wire::body(&[request]));
+    let reply = both.receive(world, &message, &OUTPUT)?;
+    let results = reply.get(RESULTS_AT..).unwrap_or_default();
+    named(
+        || receive_call(&before, &message, OUTPUT.len()),
+        || buffers("RESULTs of the papers", &[result], results),
+    )
+}
+
+/// Document 01's numbers, at the edition's limit of keys: an add to a full store, the tenth record
+/// deleted, and an add that becomes the last record.
+fn worked_keys(both: &mut Both, edition: Edition, seed: u64) -> Step {
+    let mut scene = Scene::new(edition, seed ^ 14);
+    let entries = scene.names.entries(&mut scene.random, edition.keys_max, 4);
+    let mut world = scene.over(&entries);
+    let entry = scene.fresh(1);
+    let add = (kind::ADD_KEYS, wire::k_struct(&scene.names.own, &entry));
+    let tenth = wire::k_identifier(&entries[9].key);
+    gives(both, &scene, &mut world, add.clone(), 2)?;
+    gives(both, &scene, &mut world, (kind::DELETE_KEYS, tenth), 0)?;
+    gives(both, &scene, &mut world, add.clone(), 0)?;
+    gives(both, &scene, &mut world, add, 3)?;
+    let (key, last) = (wire::k_identifier(&entry.key), edition.keys_max - 1);
+    named(
+        || format!("the last of {} records", edition.keys_max),
+        || buffers("issuer and serial", &key, identifier(&world.store, last)),
+    )
+}
+
+/// Document 01's numbers, at the edition's limit of peers: four and three added where there is
+/// room for three, and ten replaced by eleven and by ten where there is none.
+fn worked_peers(both: &mut Both, edition: Edition, seed: u64) -> Step {
+    let mut scene = Scene::new(edition, seed ^ 15);
+    let mut entries = scene.names.entries(&mut scene.random, 17, 0);
+    entries[3].peers = scene.names.peers(&mut scene.random, edition.peers_max - 13);
+    entries[8].peers = scene.names.peers(&mut scene.random, 10);
+    let mut world = scene.over(&entries);
+    let of_four = (kind::ADD_KEYS, scene.k_struct(4));
+    let of_three = (kind::ADD_KEYS, scene.k_struct(3));
+    gives(both, &scene, &mut world, of_four, 255)?;
+    gives(both, &scene, &mut world, of_three, 0)?;
+    for (count, result) in [(11, 255), (10, 0), (11, 255), (9, 0), (10, 0), (11, 255)] {
+        let peers = scene.names.peers(&mut scene.random, count);
+        let request = wire::k_entities(&entries[8].key, &peers);
+        let update = (kind::UPDATE_KEY_ENTITIES, request);
+        gives(both, &scene, &mut world, update, result)?;
+    }
+    Ok(())
+}
+
+/// Full stores of keys, and such with room for one and for two: adds, each place deleted in turn,
+/// and an add in its room.
+fn full_of_keys(both: &mut Both, edition: Edition, seed: u64) -> Step {
+    for held in edition.keys_max - 2..=edition.keys_max {
+        let mut scene = Scene::new(edition, seed ^ (1000 + held as u64));
+        let entries = scene.names.entries(&mut scene.random, held, 4);
+        for entry in &entries {
             let mut world = scene.over(&entries);
             let adds: Vec<Vec<u8>> = (0..3).map(|_| scene.k_struct(1)).collect();
-            send(both, &scene, &mut world, kind::ADD_KEYS, &wire::body(&adds))?;
-            let delete = wire::k_identifier(&entries[place].key);
-            send(
-                both,
-                &scene,
-                &mut world,
-                kind::DELETE_KEYS,
-                &wire::body(&[delete]),
-            )?;
-            let again = wire::k_struct(&scene.names.own, &entries[place]);
+            send(both, &scene, &mut world, kind::ADD_KEYS, &adds)?;
+            let delete = wire::k_identifier(&entry.key);
+            send(both, &scene, &mut world, kind::DELETE_KEYS, &[delete])?;
+            let again = wire::k_struct(&scene.names.own, entry);
             let adds = [again, scene.k_struct(1)];
-            send(both, &scene, &mut world, kind::ADD_KEYS, &wire::body(&adds))?;
+            send(both, &scene, &mut world, kind::ADD_KEYS, &adds)?;
         }
     }
     Ok(())
 }
 
-/// 256 peers held: each place's list replaced by one of every size around the room, and adds.
-fn full_of_peers(both: &mut Both, seed: u64) -> Step {
-    for keys in [1, 2, 17, 64] {
-        let mut scene = Scene::new(seed ^ (100 + keys as u64));
-        let entries = scene.names.filled(&mut scene.random, keys);
-        for place in 0..keys {
+/// No room for peers: the lists of many places replaced by one of every size around the room, and
+/// adds.
+fn full_of_peers(both: &mut Both, edition: Edition, seed: u64) -> Step {
+    for keys in [1, 2, 17, edition.keys_max] {
+        let mut scene = Scene::new(edition, seed ^ (100 + keys as u64));
+        let entries = scene.names.filled(&mut scene.random, keys, 0);
+        for place in places(&mut scene.random, keys) {
             let old = entries[place].peers.len();
-            for count in [
-                1,
-                old.saturating_sub(1),
-                old,
-                old + 1,
-                PEERS_MAX,
-                PEERS_MAX + 1,
-            ] {
-                replace(both, &mut scene, &entries, place, count.max(1))?;
+            let most = edition.peers_max;
+            for count in [1, old.saturating_sub(1), old, old + 1, most, most + 1] {
+                let count = count.clamp(1, PEER_NUM_MAX);
+                replace(both, &mut scene, &entries, place, count)?;
             }
         }
     }
     Ok(())
+}
+
+/// All places of a short list; of a long one those at both ends and some between.
+fn places(random: &mut Random, keys: usize) -> Vec<usize> {
+    if keys <= 64 {
+        return (0..keys).collect();
+    }
+    let some = (0..60).map(|_| random.below(keys));
+    [0, 1, keys - 2, keys - 1].into_iter().chain(some).collect()
 }
 
 /// Replaces one list, then adds with as many peers as there is room for, and one more.
@@ -146,13 +214,82 @@ fn replace(
         scene,
         &mut world,
         kind::UPDATE_KEY_ENTITIES,
-        &wire::body(&[request]),
+        &[request],
     )?;
-    let free = PEERS_MAX - usize::from(u16::from_be_bytes([world.store[6], world.store[7]]));
+    let edition = scene.names.edition;
+    // Two lists of 500 fit one message.
+    while free(edition, &world) > 500 && key_count(&world.store) < edition.keys_max {
+        let add = scene.k_struct(500);
+        send(both, scene, &mut world, kind::ADD_KEYS, &[add])?;
+    }
+    let free = free(edition, &world).min(500);
     let adds = [
         scene.k_struct(free + 1),
         scene.k_struct(free.max(1)),
         scene.k_struct(1),
     ];
-    send(both, scene, &mut world, kind::ADD_KEYS, &wire::body(&adds))
+    send(both, scene, &mut world, kind::ADD_KEYS, &adds)
+}
+
+fn free(edition: Edition, world: &World) -> usize {
+    edition.peers_max - peer_count(&world.store)
+}
+
+/// A store filled from the empty one, each key updated, and all deleted: from the first, from the
+/// last and in any order. The last adds find no room.
+fn filled_and_emptied(both: &mut Both, edition: Edition, seed: u64) -> Step {
+    for order in 0..3 {
+        let mut scene = Scene::new(edition, seed ^ (160 + order));
+        let mut world = scene.over(&[]);
+        let mut entries = scene.names.entries(&mut scene.random, edition.keys_max, 0);
+        entries.extend((0..5).map(|_| scene.fresh(0)));
+        for entry in &mut entries {
+            entry.peers = scene.names.peers(&mut scene.random, 1);
+        }
+        let own = scene.names.own;
+        let add = |entry: &Entry| wire::k_struct(&own, entry);
+        in_turn(both, &scene, &mut world, kind::ADD_KEYS, &entries, add)?;
+        match order {
+            0 => {}
+            1 => entries.reverse(),
+            _ => scene.random.shuffle(&mut entries),
+        }
+        let validity = |entry: &Entry| wire::k_validity(&entry.key, entry.end, entry.start);
+        let entities = |entry: &Entry| wire::k_entities(&entry.key, &[own, own]);
+        let delete = |entry: &Entry| wire::k_identifier(&entry.key);
+        let (validities, lists) = (kind::UPDATE_KEY_VALIDITIES, kind::UPDATE_KEY_ENTITIES);
+        in_turn(both, &scene, &mut world, validities, &entries, validity)?;
+        in_turn(both, &scene, &mut world, lists, &entries, entities)?;
+        in_turn(
+            both,
+            &scene,
+            &mut world,
+            kind::DELETE_KEYS,
+            &entries,
+            delete,
+        )?;
+    }
+    Ok(())
+}
+
+/// Sends a request for each entry, all of one length, in messages that are as long as they may be.
+fn in_turn(
+    both: &mut Both,
+    scene: &Scene,
+    world: &mut World,
+    kind: u8,
+    entries: &[Entry],
+    request: impl Fn(&Entry) -> Vec<u8>,
+) -> Step {
+    let requests: Vec<Vec<u8>> = entries.iter().map(request).collect();
+    let room = (LENGTH_MAX - wire::HEADER - 2) / requests[0].len();
+    let most = match kind {
+        kind::ADD_KEYS => 100,
+        kind::DELETE_KEYS => 500,
+        _ => 250,
+    };
+    for some in requests.chunks(room.min(most)) {
+        send(both, scene, world, kind, some)?;
+    }
+    Ok(())
 }

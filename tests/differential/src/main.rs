@@ -1,15 +1,18 @@
 //! Compares libkmac.a with the second program, byte for byte: each call's answer, the session,
 //! the store and the output, with guards around every lent buffer.
 //!
-//! First systematic tests, then rounds of random sequences and of pairs of runs. It stops at the
-//! first difference, and fails too where an answer that document 01 can give was never seen.
+//! First systematic tests over stores of both editions, then rounds of random sequences and of
+//! pairs of runs, each over one edition. It stops at the first difference, and fails too where an
+//! answer that document 01 can give was never seen in one of the editions.
 
 mod both;
 mod compare;
 mod coverage;
 mod damage;
 mod edges;
+mod faults;
 mod generator;
+mod layout;
 mod lent;
 mod library;
 mod limits;
@@ -19,6 +22,7 @@ mod pairs;
 mod random;
 mod scene;
 mod search;
+mod serials;
 mod sessions;
 mod soundness;
 mod stores;
@@ -30,14 +34,15 @@ use std::process::ExitCode;
 use std::time::{Duration, Instant};
 
 use both::{Both, Failure, Step};
-use coverage::{of_pairs, of_sessions, of_units, Coverage, Mark};
+use coverage::{of_pairs, of_sessions, of_units, Coverage, Seen};
 use options::Options;
 use pairs::Pairs;
+use reference::store::{EDITIONS, EDITION_2};
 
 /// Calls of a random sequence, and of each run of a pair.
 const STEPS: usize = 400;
 /// Rounds of the gate.
-const ROUNDS: u64 = 2000;
+const ROUNDS: u64 = 3000;
 
 fn main() -> ExitCode {
     let Some(options) = Options::read(std::env::args().skip(1)) else {
@@ -81,9 +86,13 @@ impl Tests {
         edges::all(both, seed)?;
         limits::all(both, seed)?;
         soundness::all(both, seed)?;
+        serials::all(both, seed)?;
         search::all(both, seed)?;
         units::all(both, seed)?;
-        self.pairs.other_parity_is_seen(seed)
+        for edition in EDITIONS {
+            self.pairs.other_parity_is_seen(edition, seed)?;
+        }
+        Ok(())
     }
 
     /// Round r of seed S is the first round of seed S + r.
@@ -118,12 +127,18 @@ impl Tests {
     /// The summary; a failure where an answer was never seen.
     fn conclude(&self) -> ExitCode {
         let all = [of_sessions(), of_units()].concat();
+        let part = |name, seen, required, runs| Part {
+            name,
+            seen,
+            required,
+            runs,
+        };
         let parts = [
-            ("systematic tests", &self.systematic.seen, all.clone()),
-            ("random sequences", &self.random.seen, all),
-            ("pairs of runs", &self.pairs.seen, of_pairs()),
+            part("systematic tests", &self.systematic.seen, all.clone(), 1),
+            part("random sequences", &self.random.seen, all, 1),
+            part("pairs of runs", &self.pairs.seen, of_pairs(), 2),
         ];
-        let blind: Vec<String> = parts.iter().filter_map(blind_spots).collect();
+        let blind: Vec<String> = parts.iter().filter_map(Part::blind_spots).collect();
         if !blind.is_empty() {
             println!(
                 "differential: seed {}: never seen: {}",
@@ -136,16 +151,30 @@ impl Tests {
             "differential: seed {}: {} systematic calls, {} in random sequences, {} in pairs of runs, no difference",
             self.seed, self.systematic.calls, self.random.calls, self.pairs.calls
         );
-        for (name, seen, required) in &parts {
-            println!("differential: {name}: {}", seen.summary(required));
-        }
+        parts.iter().for_each(Part::tell);
         ExitCode::SUCCESS
     }
 }
 
-fn blind_spots(part: &(&str, &Coverage, Vec<Mark>)) -> Option<String> {
-    let (name, seen, required) = part;
-    let missing = seen.missing(required);
-    let names: Vec<String> = missing.iter().map(Mark::to_string).collect();
-    (!names.is_empty()).then(|| format!("in {name} {}", names.join(", ")))
+/// What one part of the test saw, and what it must see.
+struct Part<'a> {
+    name: &'a str,
+    seen: &'a Coverage,
+    required: Vec<Seen>,
+    /// Calls for each answer that was seen.
+    runs: u64,
+}
+
+impl Part<'_> {
+    fn blind_spots(&self) -> Option<String> {
+        let missing = self.seen.missing(&self.required);
+        let names: Vec<String> = missing.iter().map(Seen::to_string).collect();
+        (!names.is_empty()).then(|| format!("in {} {}", self.name, names.join(", ")))
+    }
+
+    fn tell(&self) {
+        let (name, summary) = (self.name, self.seen.summary(&self.required));
+        let calls = self.runs * self.seen.calls_over(EDITION_2);
+        println!("differential: {name}: {summary}; {calls} calls over stores of edition 2");
+    }
 }

@@ -2,6 +2,7 @@
 
 use reference::refusal::{H1, H5};
 use reference::session::{Answer, Session};
+use reference::store::Edition;
 use reference::{authentication, des::Des, session, store};
 
 use crate::library::SessionBytes;
@@ -124,9 +125,9 @@ pub fn des(inverse: bool, key: &[u8; 8], block: &[u8; 8]) -> [u8; 8] {
 }
 
 pub fn empty_store(store: &mut [u8]) -> i32 {
-    if store.len() != store::LENGTH {
+    let Some(edition) = Edition::of_length(store.len()) else {
         return refused(H1);
-    }
-    store.copy_from_slice(&store::encode(&[]));
+    };
+    store.copy_from_slice(&store::encode(edition, &[]));
     0
 }

@@ -4,16 +4,17 @@
 
 use reference::message::{body, kind};
 use reference::session::OPEN;
+use reference::store::Edition;
 
-use crate::both::{named, receive_call, Step, World};
+use crate::both::{find_call, named, receive_call, Step, World};
 use crate::compare::{buffers, numbers, Compared};
 use crate::coverage::{Call, Coverage, Mark};
 use crate::generator::{Action, Generator};
+use crate::layout::{held, kmac_at};
 use crate::library::Library;
 use crate::random::Random;
 use crate::scene::{Scene, OUTPUT};
 use crate::sessions::start;
-use crate::stores::kmac_at;
 use crate::tally::Tally;
 use crate::wire::{self, structs_at, HEADER, KMAC_IN_STRUCT, KMAC_LENGTH};
 use crate::wire::{RESULTS_AT, TYPE_AT};
@@ -45,8 +46,7 @@ impl Pairs {
         let mut generator = Generator::new(seed);
         let first = start(&mut generator);
         let mut second = first.clone();
-        let count = usize::from(second.store[3]);
-        let places: Vec<usize> = (0..count).map(kmac_at).collect();
+        let places: Vec<usize> = (0..held(&second.store)).map(kmac_at).collect();
         vary(&mut generator.random, &mut second.store, &places);
         let tally = Tally::new(&first.store, &second.store);
         let mut runs = Runs {
@@ -92,22 +92,22 @@ impl Pairs {
     fn receive(&mut self, runs: &mut Runs, message: &[u8], other: &[u8], out: &[u8]) -> Step {
         self.calls += 2;
         if message != other {
-            self.seen.see(Mark::OtherKmacs);
+            self.seen.see(&runs.first.store, Mark::OtherKmacs);
         }
-        let before = runs.first.session;
+        let before = runs.first.clone();
         let (mut out_1, mut out_2) = (out.to_vec(), out.to_vec());
         let World { session, store } = &mut runs.first;
         let answer_1 = self.library.receive(session, message, store, &mut out_1);
         let World { session, store } = &mut runs.second;
         let answer_2 = self.library.receive(session, other, store, &mut out_2);
         if let Ok(answer) = answer_1 {
-            self.seen.received(message, answer, &out_1);
+            self.seen.received(&before.store, message, answer, &out_1);
             let length = usize::try_from(answer).unwrap_or(0);
             let reply = out_1.get(..length).unwrap_or_default();
             runs.tally.take(message, other, reply);
         }
         if runs.tally.has_unlike() {
-            self.seen.see(Mark::HeldUnlike);
+            self.seen.see(&before.store, Mark::HeldUnlike);
         }
         let call = || format!("two runs, {}", receive_call(&before, message, out.len()));
         named(call, || {
@@ -122,9 +122,9 @@ impl Pairs {
         let answer_1 = self.library.find(&runs.first.store, peer, t);
         let answer_2 = self.library.find(&runs.second.store, peer, t);
         if let Ok(answer) = answer_1 {
-            self.seen.answer(Call::Find, answer);
+            self.seen.answer_over(&runs.first.store, Call::Find, answer);
         }
-        let call = || format!("two runs, kmac_find, peer {peer:08x}, t {t:08x}");
+        let call = || format!("two runs, {}", find_call(&runs.first.store, peer, t));
         named(call, || {
             numbers("answer", answer_1?.into(), answer_2?.into())
         })
@@ -132,8 +132,8 @@ impl Pairs {
 
     /// A control: a KMAC byte of other parity in the second run is seen in its reply, for every
     /// bit of the KMAC.
-    pub fn other_parity_is_seen(&mut self, seed: u64) -> Step {
-        let mut scene = Scene::new(seed ^ 51);
+    pub fn other_parity_is_seen(&mut self, edition: Edition, seed: u64) -> Step {
+        let mut scene = Scene::new(edition, seed ^ 51);
         let request = scene.k_struct(1);
         let message = scene.message(kind::ADD_KEYS, &wire::body(&[request]));
         for bit in 0..8 * KMAC_LENGTH {
@@ -148,22 +148,20 @@ impl Pairs {
     /// An add of one key is answered with this RESULT.
     fn add_gives(&mut self, scene: &Scene, message: &[u8], result: u8) -> Step {
         self.calls += 1;
+        let before = scene.world(OPEN);
         let World {
             mut session,
             mut store,
-        } = scene.world(OPEN);
-        let call = receive_call(&session, message, OUTPUT.len());
+        } = before.clone();
         let mut out = OUTPUT;
         let answer = self
             .library
             .receive(&mut session, message, &mut store, &mut out);
-        named(
-            || call,
-            || {
-                numbers("answer", 24, answer?.into())?;
-                numbers("RESULT", result.into(), out[RESULTS_AT].into())
-            },
-        )
+        let call = || receive_call(&before, message, OUTPUT.len());
+        named(call, || {
+            numbers("answer", 24, answer?.into())?;
+            numbers("RESULT", result.into(), out[RESULTS_AT].into())
+        })
     }
 }
 

@@ -1,9 +1,9 @@
-//! The setting of the systematic tests: an open session over a small store, and a right
-//! message of each type for it.
+//! The setting of the systematic tests: an open session over a small store of an edition, and a
+//! right message of each type for it.
 
 use reference::message::kind;
 use reference::session::{Session, OPEN};
-use reference::store::{encode, Entry};
+use reference::store::{encode, Edition, Entry};
 
 use crate::both::World;
 use crate::model::bytes_of;
@@ -21,9 +21,9 @@ pub struct Scene {
 
 impl Scene {
     /// Five records with one to four peers each.
-    pub fn new(seed: u64) -> Scene {
+    pub fn new(edition: Edition, seed: u64) -> Scene {
         let mut random = Random::new(seed);
-        let names = Names::new(&mut random);
+        let names = Names::new(edition, &mut random);
         let mut entries = names.entries(&mut random, 5, 0);
         for entry in &mut entries {
             let count = random.between(1, 4);
@@ -49,7 +49,7 @@ impl Scene {
     pub fn world(&self, state: u8) -> World {
         World {
             session: bytes_of(&self.session(state)),
-            store: encode(&self.entries),
+            store: self.store(&self.entries),
         }
     }
 
@@ -57,8 +57,13 @@ impl Scene {
     pub fn over(&self, entries: &[Entry]) -> World {
         World {
             session: bytes_of(&self.session(OPEN)),
-            store: encode(entries),
+            store: self.store(entries),
         }
+    }
+
+    /// The store of the entries in the scene's edition.
+    pub fn store(&self, entries: &[Entry]) -> Vec<u8> {
+        encode(self.names.edition, entries)
     }
 
     pub fn header(&self) -> Header {
@@ -81,7 +86,7 @@ impl Scene {
     /// An entry that the store does not hold.
     pub fn fresh(&mut self, peer_count: usize) -> Entry {
         let mut entry = self.names.entry(&mut self.random, peer_count);
-        entry.key.serial = (0x00f0_0000 + self.random.below(0xffff) as u32).to_be_bytes();
+        entry.key.serial = (0x00f0_0001 + self.random.below(0xffff) as u32).to_be_bytes();
         entry
     }
 

@@ -4,9 +4,11 @@ use reference::session::{Session, OPEN};
 use reference::store::encode;
 
 use crate::both::{Both, Step, World};
+use crate::faults::{unsound, FAULTS};
 use crate::generator::{Action, Generator};
+use crate::layout::{other, LENGTHS};
 use crate::model::bytes_of;
-use crate::stores::{unsound, FAULTS};
+use crate::stores::Names;
 
 /// One sequence from its own seed.
 pub fn sequence(both: &mut Both, seed: u64, steps: usize) -> Step {
@@ -18,6 +20,9 @@ pub fn sequence(both: &mut Both, seed: u64, steps: usize) -> Step {
             0 => step_with_unsound_store(both, &mut generator, &mut world)?,
             1 => step_with_store_length(both, &mut generator, &mut world)?,
             2 if generator.random.one_in(4) => spoil(&mut generator, &mut world),
+            3 if generator.random.one_in(8) => {
+                step_with_other_edition(both, &mut generator, &mut world)?
+            }
             _ => step(both, &mut generator, &mut world)?,
         }
     }
@@ -41,7 +46,7 @@ pub fn start(generator: &mut Generator) -> World {
     };
     World {
         session,
-        store: encode(&entries),
+        store: encode(generator.edition(), &entries),
     }
 }
 
@@ -70,14 +75,28 @@ fn act(both: &mut Both, generator: &mut Generator, world: &mut World, action: Ac
 fn step_with_unsound_store(both: &mut Both, generator: &mut Generator, world: &mut World) -> Step {
     let fault = generator.random.pick(&FAULTS);
     let entries = generator.names.sound(&mut generator.random);
-    let store = unsound(&mut generator.random, &entries, fault);
+    let edition = generator.edition();
+    let store = unsound(&mut generator.random, edition, &entries, fault);
     step_with(both, generator, world, store)
 }
 
-/// One call on a store that is a byte too short or too long, or empty.
+/// One call on a sound store of the other edition.
+fn step_with_other_edition(both: &mut Both, generator: &mut Generator, world: &mut World) -> Step {
+    let edition = other(generator.edition());
+    let names = Names::new(edition, &mut generator.random);
+    let entries = names.sound(&mut generator.random);
+    step_with(both, generator, world, encode(edition, &entries))
+}
+
+/// One call on a store that is a byte too short or too long, empty, or of the other edition's
+/// length.
 fn step_with_store_length(both: &mut Both, generator: &mut Generator, world: &mut World) -> Step {
     let mut store = world.store.clone();
-    let length = generator.random.pick(&[0, 12, 3851, 3853, 38012]);
+    let length = if generator.random.one_in(3) {
+        other(generator.edition()).length()
+    } else {
+        generator.random.pick(&LENGTHS)
+    };
     store.resize(length, 0);
     step_with(both, generator, world, store)
 }

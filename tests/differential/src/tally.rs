@@ -1,20 +1,18 @@
 //! The tally of document 01, "Demand 3's runs": which held keys two runs were given unlike.
 
 use reference::message::kind;
-use reference::store::KEYS_MAX;
 
 use crate::compare::{buffers, numbers, Compared};
-use crate::stores::{kmac_at, record_at};
+use crate::layout::{held, identifier, key_count, kmac, kmac_at, IDENTIFIER};
 use crate::wire::{structs_at, HEADER, KMAC_IN_STRUCT, KMAC_LENGTH};
 use crate::wire::{RESPONSE_AT, RESULTS_AT, TYPE_AT};
 
-const IDENTIFIER: usize = 8;
 const IDENTIFIER_IN_STRUCT: usize = 1;
 
 #[derive(Clone, PartialEq, Eq, Debug)]
 struct Tag {
     /// Issuer and serial.
-    key: Vec<u8>,
+    key: [u8; IDENTIFIER],
     unlike: bool,
 }
 
@@ -25,10 +23,10 @@ impl Tally {
     /// One tag for each record of two sound stores.
     pub fn new(first: &[u8], second: &[u8]) -> Tally {
         let tag = |place| Tag {
-            key: identifier(first, place).to_vec(),
+            key: key(identifier(first, place)),
             unlike: kmac(first, place) != kmac(second, place),
         };
-        Tally((0..key_count(first) as usize).map(tag).collect())
+        Tally((0..key_count(first)).map(tag).collect())
     }
 
     /// Takes in the messages of both runs and the reply of the first.
@@ -48,10 +46,10 @@ impl Tally {
     fn added(&mut self, first: &[u8], second: &[u8], results: &[u8]) {
         for (at, &result) in structs_at(first).into_iter().zip(results) {
             if result == 0 {
-                let key = at + IDENTIFIER_IN_STRUCT;
+                let key_at = at + IDENTIFIER_IN_STRUCT;
                 let kmac = at + KMAC_IN_STRUCT..at + KMAC_IN_STRUCT + KMAC_LENGTH;
                 self.0.push(Tag {
-                    key: first[key..key + IDENTIFIER].to_vec(),
+                    key: key(&first[key_at..key_at + IDENTIFIER]),
                     unlike: first[kmac.clone()] != second[kmac],
                 });
             }
@@ -73,9 +71,9 @@ impl Tally {
     /// Both stores have the tally's keys in its order; they differ only inside KMAC fields, and
     /// two KMACs of one place exactly where the tag says unlike.
     pub fn holds(&self, first: &[u8], second: &[u8]) -> Compared {
-        let held = self.0.len();
-        numbers("key count, by the tally", held as i64, key_count(first))?;
-        for (place, tag) in self.0.iter().enumerate().take(KEYS_MAX) {
+        let (tags, count) = (self.0.len() as i64, key_count(first) as i64);
+        numbers("key count, by the tally", tags, count)?;
+        for (place, tag) in self.0.iter().enumerate().take(held(first)) {
             let got = identifier(first, place);
             buffers("issuer and serial, by the tally", &tag.key, got)?;
             let unlike = kmac(first, place) != kmac(second, place);
@@ -85,28 +83,19 @@ impl Tally {
                 unlike.into(),
             )?;
         }
-        let held = held.min(KEYS_MAX);
-        let (first, second) = (masked(first, held), masked(second, held));
-        buffers("store outside KMAC fields", &first, &second)
+        let (mask, other_mask) = (masked(first), masked(second));
+        buffers("store outside KMAC fields", &mask, &other_mask)
     }
 }
 
-fn key_count(store: &[u8]) -> i64 {
-    u16::from_be_bytes([store[2], store[3]]).into()
-}
-
-fn identifier(store: &[u8], place: usize) -> &[u8] {
-    &store[record_at(place)..record_at(place) + IDENTIFIER]
-}
-
-fn kmac(store: &[u8], place: usize) -> &[u8] {
-    &store[kmac_at(place)..kmac_at(place) + KMAC_LENGTH]
+fn key(bytes: &[u8]) -> [u8; IDENTIFIER] {
+    std::array::from_fn(|i| bytes[i])
 }
 
 /// The store with its held KMACs blanked.
-fn masked(store: &[u8], count: usize) -> Vec<u8> {
+fn masked(store: &[u8]) -> Vec<u8> {
     let mut masked = store.to_vec();
-    for place in 0..count {
+    for place in 0..held(store) {
         masked[kmac_at(place)..kmac_at(place) + KMAC_LENGTH].fill(0);
     }
     masked
@@ -117,50 +106,61 @@ mod tests {
     use super::{kmac_at, Tally};
     use crate::random::Random;
     use crate::stores::Names;
-    use reference::store::encode;
+    use reference::store::{encode, Edition, EDITIONS, EDITION_1};
 
-    /// Two stores of four records with other KMACs in places 1 and 3.
-    fn two_stores() -> (Vec<u8>, Vec<u8>) {
+    /// Two stores of as many records, with other KMACs in the second place and in the last.
+    fn two_stores(edition: Edition, keys: usize) -> (Vec<u8>, Vec<u8>) {
         let mut random = Random::new(5);
-        let names = Names::new(&mut random);
-        let first = encode(&names.entries(&mut random, 4, 3));
+        let names = Names::new(edition, &mut random);
+        let first = encode(edition, &names.entries(&mut random, keys, 3));
         let mut second = first.clone();
         second[kmac_at(1)] ^= 3;
-        second[kmac_at(3) + 23] ^= 0x60;
+        second[kmac_at(keys - 1) + 23] ^= 0x60;
         (first, second)
     }
 
     #[test]
     fn a_tally_holds_of_its_own_stores() {
-        let (first, second) = two_stores();
-        assert_eq!(Tally::new(&first, &second).holds(&first, &second), Ok(()));
+        for edition in EDITIONS {
+            let (first, second) = two_stores(edition, edition.keys_max);
+            assert_eq!(Tally::new(&first, &second).holds(&first, &second), Ok(()));
+        }
     }
 
     #[test]
     fn any_other_byte_of_the_second_store_breaks_it() {
-        let (first, second) = two_stores();
-        let tally = Tally::new(&first, &second);
-        let unlike = [1, 3].map(|place| kmac_at(place)..kmac_at(place) + 24);
-        for at in 0..second.len() {
-            let mut wrong = second.clone();
-            wrong[at] ^= 0x10;
-            let inside = unlike.iter().any(|field| field.contains(&at));
-            assert_eq!(tally.holds(&first, &wrong).is_ok(), inside, "byte {at}");
+        for edition in EDITIONS {
+            for keys in [4, edition.keys_max] {
+                let (first, second) = two_stores(edition, keys);
+                let tally = Tally::new(&first, &second);
+                let unlike = [1, keys - 1].map(|place| kmac_at(place)..kmac_at(place) + 24);
+                let step = if edition == EDITION_1 { 1 } else { 19 };
+                for at in (0..second.len()).step_by(step) {
+                    let mut wrong = second.clone();
+                    wrong[at] ^= 0x10;
+                    let inside = unlike.iter().any(|field| field.contains(&at));
+                    assert_eq!(tally.holds(&first, &wrong).is_ok(), inside, "byte {at}");
+                }
+            }
         }
     }
 
     #[test]
     fn an_unlike_key_that_became_the_same_breaks_it() {
-        let (first, second) = two_stores();
-        let tally = Tally::new(&first, &second);
-        assert!(tally.holds(&first, &first).is_err());
+        for edition in EDITIONS {
+            let (first, second) = two_stores(edition, edition.keys_max);
+            let tally = Tally::new(&first, &second);
+            assert!(tally.holds(&first, &first).is_err());
+        }
     }
 
     #[test]
     fn a_missing_record_breaks_it() {
-        let (first, second) = two_stores();
-        let mut tally = Tally::new(&first, &second);
-        tally.0.pop();
-        assert!(tally.holds(&first, &second).is_err());
+        for edition in EDITIONS {
+            let (first, second) = two_stores(edition, edition.keys_max);
+            let mut tally = Tally::new(&first, &second);
+            tally.0.pop();
+            assert!(tally.holds(&first, &second).is_err());
+        }
     }
 }

@@ -3,6 +3,7 @@
 use reference::authentication::mac;
 
 use crate::both::{Both, Step};
+use crate::layout::LENGTHS;
 use crate::random::Random;
 use crate::scene::OUTPUT;
 
@@ -160,5 +161,7 @@ pub fn some(both: &mut Both, seed: u64) -> Step {
         both.check(&flipped(&unit, bit), &key, &destination, direction)?;
     }
     both.empty_store(&random.bytes(3852))?;
-    both.empty_store(&random.bytes(3851))
+    both.empty_store(&random.bytes(38012))?;
+    let length = random.pick(&LENGTHS);
+    both.empty_store(&random.bytes(length))
 }

@@ -5,6 +5,8 @@ use reference::Identity;
 
 pub const HEADER: usize = 20;
 pub const LENGTH_MAX: usize = 5000;
+/// The most peers of one list.
+pub const PEER_NUM_MAX: usize = 1000;
 
 /// Where the fields of a header start (000, 5.3.3).
 pub const VERSION_AT: usize = 4;

@@ -1,6 +1,6 @@
 //! Refusals of the house (01). Each constant has the number of its name.
 
-/// The store buffer is not 3,852 bytes.
+/// The store buffer has the length of neither edition: 3,852 or 38,012 bytes.
 pub const H1: u8 = 1;
 /// The output buffer is under 1,032 bytes.
 pub const H2: u8 = 2;

@@ -3,7 +3,8 @@
 use crate::message::{body, is_supported, kind, notif_response, offers_version, response};
 use crate::message::{session_init, Body, Header, HEADER_LENGTH, VERSION};
 use crate::refusal::{H1, H2, H3, H4, H5, H6};
-use crate::{store, Identity, OUTPUT_LENGTH};
+use crate::store::{self, Edition};
+use crate::{Identity, OUTPUT_LENGTH};
 
 pub const CLOSED: u8 = 0;
 pub const WAITING: u8 = 1;
@@ -70,9 +71,9 @@ pub fn receive(
     store: &mut [u8],
     out: &mut [u8],
 ) -> (Session, Answer) {
-    if store.len() != store::LENGTH {
+    let Some(edition) = Edition::of_length(store.len()) else {
         return (session, Answer::Refused(H1));
-    }
+    };
     if out.len() < OUTPUT_LENGTH {
         return (session, Answer::Refused(H2));
     }
@@ -85,7 +86,7 @@ pub fn receive(
     if session.state == WAITING {
         return open(session, &header, message);
     }
-    match judge(&session, &header, message, store) {
+    match judge(&session, &header, message, edition, store) {
         Outcome::Ended => (closed(session), Answer::Ended),
         Outcome::Response(response, results) => {
             let Session {
@@ -115,7 +116,13 @@ fn open(session: Session, header: &Header, message: &[u8]) -> (Session, Answer) 
 }
 
 /// The tests of an open session in 01's order, then the work. The first failure is the RESPONSE.
-fn judge(session: &Session, header: &Header, message: &[u8], store: &mut [u8]) -> Outcome {
+fn judge(
+    session: &Session,
+    header: &Header,
+    message: &[u8],
+    edition: Edition,
+    store: &mut [u8],
+) -> Outcome {
     let failed = |response| Outcome::Response(response, Vec::new());
     if let Some(fault) = header_fault(session, header, message.len()) {
         return failed(fault);
@@ -130,10 +137,10 @@ fn judge(session: &Session, header: &Header, message: &[u8], store: &mut [u8]) -
         None => failed(response::FORMAT_ERROR),
         Some(Body::EndOfUpdate) => Outcome::Ended,
         Some(Body::DeleteAll) => {
-            store.copy_from_slice(&store::encode(&[]));
+            store.copy_from_slice(&store::encode(edition, &[]));
             Outcome::Response(response::DONE, Vec::new())
         }
-        Some(Body::Requests(requests)) => match work(&session.own, requests, store) {
+        Some(Body::Requests(requests)) => match work(&session.own, requests, edition, store) {
             None => failed(response::UNRECOVERABLE_DATABASE),
             Some(results) => Outcome::Response(response::DONE, results),
         },
@@ -158,13 +165,18 @@ fn header_fault(session: &Session, header: &Header, delivered: usize) -> Option<
 }
 
 /// Works the requests in order on a sound store. Gives their RESULTs; `None` if unsound.
-fn work(own: &Identity, requests: Vec<store::Request>, store: &mut [u8]) -> Option<Vec<u8>> {
+fn work(
+    own: &Identity,
+    requests: Vec<store::Request>,
+    edition: Edition,
+    store: &mut [u8],
+) -> Option<Vec<u8>> {
     let mut entries = store::decode(store)?;
     let results = requests
         .into_iter()
-        .map(|request| store::work(&mut entries, own, request))
+        .map(|request| store::work(edition, &mut entries, own, request))
         .collect();
-    store.copy_from_slice(&store::encode(&entries));
+    store.copy_from_slice(&store::encode(edition, &entries));
     Some(results)
 }
 

@@ -1,4 +1,4 @@
-//! The key store (01, "The key store", "What each request does", "Key search").
+//! The key store (01, "The key store", "What each request does", "Key search"; 02, change request 5).
 //!
 //! A store is decoded to a list of entries, the list is edited, and encoded again.
 
@@ -6,15 +6,59 @@ use crate::reader::Reader;
 use crate::refusal::{H1, H11, H12};
 use crate::Identity;
 
-pub const LENGTH: usize = 3852;
-pub const KEYS_MAX: usize = 64;
-pub const PEERS_MAX: usize = 256;
-
-const EDITION: u16 = 1;
-const KEYS_AT: usize = 12;
-const RECORD_LENGTH: usize = 44;
-const PEERS_AT: usize = KEYS_AT + KEYS_MAX * RECORD_LENGTH;
+pub const KEYS_AT: usize = 12;
+pub const RECORD_LENGTH: usize = 44;
 const PEER_LENGTH: usize = 4;
+
+/// An edition of the store: its number and its limits, which give places and length.
+#[derive(Clone, Copy, PartialEq, Eq, Debug)]
+pub struct Edition {
+    pub number: u16,
+    pub keys_max: usize,
+    pub peers_max: usize,
+}
+
+pub const EDITION_1: Edition = Edition {
+    number: 1,
+    keys_max: 64,
+    peers_max: 256,
+};
+
+pub const EDITION_2: Edition = Edition {
+    number: 2,
+    keys_max: 500,
+    peers_max: 4000,
+};
+
+pub const EDITIONS: [Edition; 2] = [EDITION_1, EDITION_2];
+
+impl Edition {
+    pub const fn peers_at(&self) -> usize {
+        KEYS_AT + self.keys_max * RECORD_LENGTH
+    }
+
+    pub const fn length(&self) -> usize {
+        self.peers_at() + self.peers_max * PEER_LENGTH
+    }
+
+    /// The edition that has stores of this length.
+    pub fn of_length(length: usize) -> Option<Edition> {
+        EDITIONS
+            .into_iter()
+            .find(|edition| edition.length() == length)
+    }
+
+    fn header_numbers(&self, key_count: usize, peer_count: usize) -> [u16; 6] {
+        [
+            self.number,
+            key_count as u16,
+            KEYS_AT as u16,
+            peer_count as u16,
+            self.peers_at() as u16,
+            self.length() as u16,
+        ]
+    }
+}
 
 /// Issuer and serial number, which name a key (000, 5.3.4.2).
 #[derive(Clone, Copy, PartialEq, Eq, Debug)]
@@ -62,22 +106,23 @@ pub mod result {
     pub const OTHER_ERROR: u8 = 255;
 }
 
-/// The entries of a sound store of the right length; `None` for any other.
+/// The entries of a sound store of the edition that has its length; `None` for any other.
 pub fn decode(store: &[u8]) -> Option<Vec<Entry>> {
-    if store.len() != LENGTH {
-        return None;
-    }
-    let (key_count, peer_count) = counts(store)?;
+    let edition = Edition::of_length(store.len())?;
+    let (key_count, peer_count) = counts(edition, store)?;
     let keys_end = KEYS_AT + key_count * RECORD_LENGTH;
-    let peers_end = PEERS_AT + peer_count * PEER_LENGTH;
+    let peers_at = edition.peers_at();
+    let peers_end = peers_at + peer_count * PEER_LENGTH;
     let mut records = Reader(&store[KEYS_AT..keys_end]);
-    let mut peers = Reader(&store[PEERS_AT..peers_end]);
+    let mut peers = Reader(&store[peers_at..peers_end]);
     let mut entries = Vec::new();
+    let mut used = 0;
     while !records.is_at_end() {
-        let used = peer_sum(&entries);
-        entries.push(entry(&mut records, &mut peers, used)?);
+        let entry = entry(&mut records, &mut peers, used)?;
+        used += entry.peers.len();
+        entries.push(entry);
     }
-    let unused = [&store[keys_end..PEERS_AT], &store[peers_end..]].concat();
+    let unused = [&store[keys_end..peers_at], &store[peers_end..]].concat();
     let sound = peers.is_at_end()
         && identifiers_differ(&entries)
         && entries.iter().all(|entry| has_odd_parity(&entry.kmac))
@@ -86,14 +131,14 @@ pub fn decode(store: &[u8]) -> Option<Vec<Entry>> {
 }
 
 /// The two counts, where they are in their limits and the four fixed numbers hold.
-fn counts(store: &[u8]) -> Option<(usize, usize)> {
+fn counts(edition: Edition, store: &[u8]) -> Option<(usize, usize)> {
     let numbers: [u16; 6] =
         std::array::from_fn(|i| u16::from_be_bytes([store[2 * i], store[2 * i + 1]]));
     let key_count = usize::from(numbers[1]);
     let peer_count = usize::from(numbers[3]);
-    let right = numbers == header_numbers(key_count, peer_count)
-        && key_count <= KEYS_MAX
-        && peer_count <= PEERS_MAX;
+    let right = numbers == edition.header_numbers(key_count, peer_count)
+        && key_count <= edition.keys_max
+        && peer_count <= edition.peers_max;
     right.then_some((key_count, peer_count))
 }
 
@@ -120,6 +165,7 @@ fn entry(records: &mut Reader, peers: &mut Reader, used: usize) -> Option<Entry>
     })
 }
 
+/// Each is compared with all before it, as the sentence of 01 stands.
 fn identifiers_differ(entries: &[Entry]) -> bool {
     let is_first = |(i, entry): (usize, &Entry)| place(entries, &entry.key) == Some(i);
     entries.iter().enumerate().all(is_first)
@@ -129,10 +175,10 @@ fn has_odd_parity(kmac: &[u8; 24]) -> bool {
     kmac.iter().all(|byte| byte.count_ones() % 2 == 1)
 }
 
-/// The one store of a list within the limits.
-pub fn encode(entries: &[Entry]) -> Vec<u8> {
+/// The one store of a list within the edition's limits.
+pub fn encode(edition: Edition, entries: &[Entry]) -> Vec<u8> {
     let mut store = Vec::new();
-    for number in header_numbers(entries.len(), peer_sum(entries)) {
+    for number in edition.header_numbers(entries.len(), peer_sum(entries)) {
         store.extend(number.to_be_bytes());
     }
     let mut first = 0;
@@ -146,29 +192,18 @@ pub fn encode(entries: &[Entry]) -> Vec<u8> {
         store.extend((entry.peers.len() as u16).to_be_bytes());
         first += entry.peers.len();
     }
-    store.resize(PEERS_AT, 0);
+    store.resize(edition.peers_at(), 0);
     for entry in entries {
         store.extend(entry.peers.concat());
     }
-    store.resize(LENGTH, 0);
+    store.resize(edition.length(), 0);
     store
 }
 
-fn header_numbers(key_count: usize, peer_count: usize) -> [u16; 6] {
-    [
-        EDITION,
-        key_count as u16,
-        KEYS_AT as u16,
-        peer_count as u16,
-        PEERS_AT as u16,
-        LENGTH as u16,
-    ]
-}
-
 /// Works one request on the list. Gives its RESULT; the list changes only with RESULT 0.
-pub fn work(entries: &mut Vec<Entry>, own: &Identity, request: Request) -> u8 {
+pub fn work(edition: Edition, entries: &mut Vec<Entry>, own: &Identity, request: Request) -> u8 {
     match request {
-        Request::Add { recipient, entry } => add(entries, own, recipient, entry),
+        Request::Add { recipient, entry } => add(edition, entries, own, recipient, entry),
         Request::Delete(key) => on_held(entries, &key, |entries, i| {
             entries.remove(i);
             result::DONE
@@ -179,7 +214,7 @@ pub fn work(entries: &mut Vec<Entry>, own: &Identity, request: Request) -> u8 {
             result::DONE
         }),
         Request::UpdateEntities { key, peers } => on_held(entries, &key, |entries, i| {
-            if peer_sum(entries) - entries[i].peers.len() + peers.len() > PEERS_MAX {
+            if peer_sum(entries) - entries[i].peers.len() + peers.len() > edition.peers_max {
                 return result::OTHER_ERROR;
             }
             entries[i].peers = peers;
@@ -189,7 +224,13 @@ pub fn work(entries: &mut Vec<Entry>, own: &Identity, request: Request) -> u8 {
 }
 
 /// The first reason that applies, in 01's order.
-fn add(entries: &mut Vec<Entry>, own: &Identity, recipient: Identity, entry: Entry) -> u8 {
+fn add(
+    edition: Edition,
+    entries: &mut Vec<Entry>,
+    own: &Identity,
+    recipient: Identity,
+    entry: Entry,
+) -> u8 {
     if recipient != *own {
         return result::RECIPIENT_MISMATCH;
     }
@@ -199,10 +240,10 @@ fn add(entries: &mut Vec<Entry>, own: &Identity, recipient: Identity, entry: Ent
     if place(entries, &entry.key).is_some() {
         return result::ALREADY_INSTALLED;
     }
-    if entries.len() >= KEYS_MAX {
+    if entries.len() >= edition.keys_max {
         return result::TOO_MANY_KEYS;
     }
-    if peer_sum(entries) + entry.peers.len() > PEERS_MAX {
+    if peer_sum(entries) + entry.peers.len() > edition.peers_max {
         return result::OTHER_ERROR;
     }
     entries.push(entry);
@@ -231,7 +272,7 @@ fn peer_sum(entries: &[Entry]) -> usize {
 
 /// The place, from 1, of the first record for `peer` with start <= t < end.
 pub fn find(store: &[u8], peer: &Identity, t: u32) -> Result<usize, u8> {
-    if store.len() != LENGTH {
+    if Edition::of_length(store.len()).is_none() {
         return Err(H1);
     }
     let entries = decode(store).ok_or(H12)?;

@@ -8,7 +8,7 @@ use Rattle.console.proofs.feed.Statement.{statement}
 use Rattle.console.proofs.feed.Tie as tie
 
 abbrev Inv-loop : tie.InvT-loop
-Inv-loop chunk line₀ store₀ keys₀ bench₀ at₀ line store keys bench at = (length line ≡ length line₀) × (length store ≡ length store₀) × (length keys ≡ length keys₀) × (length store₀ ≡ 3852) × (length keys₀ ≡ 24)
+Inv-loop chunk line₀ store₀ keys₀ bench₀ at₀ line store keys bench at = (length line ≡ length line₀) × (length store ≡ length store₀) × (length keys ≡ length keys₀) × (length store₀ ≡ 38012) × (length keys₀ ≡ 24)
 
 abbrev μ-loop : tie.MeasureT-loop
 μ-loop chunk line₀ store₀ keys₀ bench₀ at₀ line store keys bench at = length chunk - at

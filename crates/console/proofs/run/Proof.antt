@@ -7,7 +7,7 @@ use Rattle.console.proofs.run.Statement.{statement}
 use Rattle.console.proofs.run.Tie as tie
 
 abbrev Inv-loop : tie.InvT-loop
-Inv-loop line₀ store₀ keys₀ bench₀ turns₀ line store keys bench turns = (length line ≡ length line₀) × (length store ≡ length store₀) × (length keys ≡ length keys₀) × (length store₀ ≡ 3852) × (length keys₀ ≡ 24)
+Inv-loop line₀ store₀ keys₀ bench₀ turns₀ line store keys bench turns = (length line ≡ length line₀) × (length store ≡ length store₀) × (length keys ≡ length keys₀) × (length store₀ ≡ 38012) × (length keys₀ ≡ 24)
 
 abbrev μ-loop : tie.MeasureT-loop
 μ-loop line₀ store₀ keys₀ bench₀ turns₀ line store keys bench turns = turns

@@ -3,14 +3,15 @@
 use reference::authentication::{build, check, session_keys};
 use reference::hex::encode;
 use reference::session::{begin, receive, Answer, Session, CLOSED, OPEN, WAITING};
-use reference::store::{self, decode, find};
+use reference::store::{self, decode, find, Edition, EDITIONS, EDITION_1};
 use reference::{Identity, OUTPUT_LENGTH};
 use std::io::Read;
+use std::ops::RangeInclusive;
 
 /// The longest line.
-const LINE: usize = 10_010;
+const LINE: usize = 76_100;
 
-const USAGE: [(&str, &str); 10] = [
+const USAGE: [(&str, &str); 11] = [
     (
         "begin",
         "begin OWN PEER NUMBER (identities of 8 hex digits, NUMBER 0 to 65535)",
@@ -29,7 +30,11 @@ const USAGE: [(&str, &str); 10] = [
         "check",
         "check DESTINATION DIRECTION UNIT (6 hex digits, 0 or 1, two hex digits a byte)",
     ),
-    ("store", "store HEX (3852 bytes, two hex digits a byte)"),
+    (
+        "store",
+        "store HEX (3852 or 38012 bytes, two hex digits a byte)",
+    ),
+    ("edition", "edition N (1 or 2: makes the empty store of it)"),
     ("show", "show"),
     ("empty", "empty"),
     ("help", "help"),
@@ -37,7 +42,7 @@ const USAGE: [(&str, &str); 10] = [
 
 /// The reason of each refusal, H1 first.
 const REASONS: [&str; 13] = [
-    "store is not 3852 bytes",
+    "store has the length of no edition",
     "output under 1032 bytes",
     "session is closed",
     "message shorter than a header",
@@ -78,7 +83,7 @@ fn main() {
             next: 0,
             expected: 0,
         },
-        store: store::encode(&[]),
+        store: store::encode(EDITION_1, &[]),
         keys: None,
     };
     for (number, line) in lines.iter().enumerate() {
@@ -112,7 +117,7 @@ fn bytes(word: &str) -> Result<Vec<u8>, &'static str> {
     Ok((0..word.len()).step_by(2).map(pair).collect())
 }
 
-fn decimal(word: &str, most: u64) -> Result<u64, &'static str> {
+fn decimal(word: &str, range: RangeInclusive<u64>) -> Result<u64, &'static str> {
     if !word.bytes().all(|byte| byte.is_ascii_digit()) {
         return Err("not a decimal number");
     }
@@ -120,7 +125,7 @@ fn decimal(word: &str, most: u64) -> Result<u64, &'static str> {
         return Err("number out of range");
     }
     let number: u64 = word.parse().expect("at most 16 digits");
-    if number > most {
+    if !range.contains(&number) {
         return Err("number out of range");
     }
     Ok(number)
@@ -129,7 +134,7 @@ fn decimal(word: &str, most: u64) -> Result<u64, &'static str> {
 impl Bench {
     fn line(&mut self, number: usize, line: &[u8]) {
         if line.len() > LINE {
-            println!("line {number}: line too long: expected at most 10010 characters");
+            println!("line {number}: line too long: expected at most {LINE} characters");
             return;
         }
         let text = String::from_utf8_lossy(line);
@@ -157,7 +162,7 @@ impl Bench {
         let count = match name {
             "begin" | "keys" | "build" | "check" => 3,
             "search" => 2,
-            "message" | "store" => 1,
+            "message" | "store" | "edition" => 1,
             _ => 0,
         };
         if fields.len() < count {
@@ -173,15 +178,16 @@ impl Bench {
             "keys" => self.hold(fields)?,
             "build" => self.build(
                 digits(fields[0])?,
-                decimal(fields[1], 1)?,
+                decimal(fields[1], 0..=1)?,
                 &bytes(fields[2])?,
             ),
             "check" => self.check(
                 digits(fields[0])?,
-                decimal(fields[1], 1)?,
+                decimal(fields[1], 0..=1)?,
                 &bytes(fields[2])?,
             ),
             "store" => self.take(bytes(fields[0])?),
+            "edition" => self.choose(decimal(fields[0], 1..=2)?),
             "show" => self.show(),
             "empty" => self.take_empty(),
             _ => help(),
@@ -192,7 +198,7 @@ impl Bench {
     fn begin(&mut self, fields: &[&str]) -> Said {
         let own: Identity = digits(fields[0])?;
         let peer: Identity = digits(fields[1])?;
-        let number = decimal(fields[2], 65_535)? as u16;
+        let number = decimal(fields[2], 0..=65_535)? as u16;
         let mut out = [0; OUTPUT_LENGTH];
         match begin(own, peer, number, &mut out) {
             Ok((session, n)) => {
@@ -224,7 +230,7 @@ impl Bench {
     }
 
     fn hold(&mut self, fields: &[&str]) -> Said {
-        let place = decimal(fields[0], 65_535)? as usize;
+        let place = decimal(fields[0], 0..=65_535)? as usize;
         let (ra, rb) = (digits(fields[1])?, digits(fields[2])?);
         let Some(entries) = decode(&self.store) else {
             println!("store unsound");
@@ -264,20 +270,34 @@ impl Bench {
     }
 
     fn take(&mut self, bytes: Vec<u8>) {
-        if bytes.len() != store::LENGTH {
-            println!("store not taken: expected 3852 bytes");
+        if Edition::of_length(bytes.len()).is_none() {
+            println!("store not taken: expected 3852 or 38012 bytes");
             return;
         }
         self.store = bytes;
         println!("store taken");
     }
 
+    fn choose(&mut self, number: u64) {
+        self.store = store::encode(EDITIONS[number as usize - 1], &[]);
+        println!("store empty, edition {number}");
+    }
+
     fn take_empty(&mut self) {
-        self.store = store::encode(&[]);
+        self.store = store::encode(self.edition(), &[]);
         println!("store empty");
     }
 
+    /// The edition whose length the store held has.
+    fn edition(&self) -> Edition {
+        Edition::of_length(self.store.len()).expect("no other store is taken")
+    }
+
     fn show(&self) {
+        // Edition 1, the one at the start, is not said.
+        if self.edition() != EDITION_1 {
+            println!("edition {}", self.edition().number);
+        }
         match decode(&self.store) {
             None => println!("store unsound"),
             Some(entries) => records(&entries),

@@ -1,8 +1,9 @@
-//! Prints the input of an example for the console: `console_examples update`, `torn`, `yards` or `lines`.
+//! Prints the input of an example for the console: `console_examples update`, `torn`, `yards`, `depot` or `lines`.
 
 use reference::authentication::{build, session_keys};
 use reference::hex::encode;
 use reference::message::{self, kind};
+use reference::store::{self, Entry, KeyIdentifier, EDITION_1, EDITION_2};
 use reference::{Identity, OUTPUT_LENGTH};
 
 const TUG: Identity = [0x02, 0xe6, 0xa5, 0x41];
@@ -17,6 +18,9 @@ const START: [u8; 4] = [0x26, 0x01, 0x01, 0x00];
 const END: [u8; 4] = [0x26, 0x12, 0x31, 0x23];
 const NOON: [u8; 4] = [0x26, 0x11, 0x15, 0x12];
 
+/// The longest line that the console reads.
+const LINE: usize = 76_100;
+
 const RA: [u8; 8] = [0x11, 0x22, 0x33, 0x44, 0x55, 0x66, 0x77, 0x88];
 const RB: [u8; 8] = [0x99, 0xaa, 0xbb, 0xcc, 0xdd, 0xee, 0xff, 0x00];
 
@@ -26,9 +30,10 @@ fn main() {
         "update" => update(),
         "torn" => torn(),
         "yards" => yards(),
+        "depot" => depot(),
         "lines" => lines(),
         _ => {
-            eprintln!("console_examples update|torn|yards|lines");
+            eprintln!("console_examples update|torn|yards|depot|lines");
             std::process::exit(2);
         }
     }
@@ -285,6 +290,66 @@ fn yards() {
     check_line(TUG, 0, &unit(&kmac(1), TUG, false, b"clear the siding"));
 }
 
+/// The railways of the border depot: the second byte of their radio block centres.
+const FIRST_RAILWAY: u8 = 0x00;
+const SECOND_RAILWAY: u8 = 0x40;
+
+/// The radio block centre of a railway whose last two digits are those of the decimal number.
+fn centre_of(railway: u8, number: u32) -> Identity {
+    let digits = number / 10 * 16 + number % 10;
+    [0x01, railway, 0x01, digits as u8]
+}
+
+/// Keys with these serials for the tug, each for the radio block centre of its number in each railway.
+fn keys_for(railways: &[u8], serials: std::ops::RangeInclusive<u32>) -> Vec<u8> {
+    let of = |serial| {
+        let list: Vec<Identity> = railways.iter().map(|&r| centre_of(r, serial)).collect();
+        key(serial, TUG, &kmac(serial), &list)
+    };
+    requests(&serials.map(of).collect::<Vec<_>>())
+}
+
+fn depot() {
+    println!("# A border depot. Its tug 02e6a541 runs on the lines of two railways, and 64 keys are too few.");
+    println!("# The radio block centres of the first are 010001nn, those of the second 014001nn, nn being the number of their key in decimal; show prints serials in hex.");
+    println!(
+        "# Edition 1 of the store takes 64 keys. The centre 05000017 brings them in one message."
+    );
+    let mut session = Session::open(TUG, 1, 200);
+    session.send(kind::ADD_KEYS, &keys_for(&[FIRST_RAILWAY], 1..=64));
+    println!("# For key 65 there is no room (RESULT 2), and a search for its radio block centre finds no key.");
+    session.send(kind::ADD_KEYS, &keys_for(&[SECOND_RAILWAY], 65..=65));
+    search(centre_of(SECOND_RAILWAY, 65), NOON);
+    session.end();
+    println!("# Edition 2 takes 500 keys and 4000 peers. Its store is empty at first, so the centre brings all keys anew.");
+    println!("edition 2");
+    more_keys(Session::open(TUG, 1, 300));
+}
+
+fn more_keys(mut session: Session) {
+    println!(
+        "# Keys 1 to 40 are for the first railway, keys 41 to 75 now for both: 75 keys and 110 peers."
+    );
+    session.send(kind::ADD_KEYS, &keys_for(&[FIRST_RAILWAY], 1..=40));
+    let both = [FIRST_RAILWAY, SECOND_RAILWAY];
+    session.send(kind::ADD_KEYS, &keys_for(&both, 41..=75));
+    println!("# Key 65 and the last one fit for the second railway; key 40 is not for it.");
+    search(centre_of(SECOND_RAILWAY, 65), NOON);
+    search(centre_of(SECOND_RAILWAY, 75), NOON);
+    search(centre_of(SECOND_RAILWAY, 40), NOON);
+    println!("# Session keys from the last key, and a unit to the tug, built here and by the second program.");
+    keys(75);
+    build_line(TUG, 0, b"cross the border");
+    check_line(TUG, 0, &unit(&kmac(75), TUG, false, b"cross the border"));
+    println!("# Key 10 is deleted: those behind it move up, and the last one is now at place 74.");
+    session.send(kind::DELETE_KEYS, &requests(&[identifier(10)]));
+    search(centre_of(SECOND_RAILWAY, 75), NOON);
+    println!("show");
+    println!("# End of update: the session closes, and the store keeps its keys.");
+    session.end();
+    search(centre_of(SECOND_RAILWAY, 65), NOON);
+}
+
 /// Every command and every answer of the console, in few lines.
 fn lines() {
     println!("# Every command, and what is said of a line that is not read.\n");
@@ -302,8 +367,9 @@ fn lines() {
     waiting();
     commands();
     units();
+    editions();
     unsound();
-    println!("{}", "x".repeat(10_011));
+    println!("{}", "x".repeat(LINE + 1));
     print!("# the end, with no line end");
 }
 
@@ -361,16 +427,85 @@ fn units() {
     check_line(TUG, 1, &right);
 }
 
-/// A store that is not sound: its key count is 1, and its first record zero.
+/// The edition chosen: the session and the session keys held stay.
+fn editions() {
+    let mut session = Session::open(TUG, 1, 1);
+    let one = requests(&[key(1, TUG, &kmac(1), &[RBC])]);
+    session.send(kind::ADD_KEYS, &one);
+    println!("edition 2\nshow");
+    check_line(TUG, 1, &unit(&kmac(2), TUG, true, &[1, 2, 3]));
+    session.send(kind::ADD_KEYS, &one);
+    println!("show\nempty\nshow\nedition 1\nshow");
+    println!("edition 0\nedition 3\nedition x\nedition -1\nedition\nedition 1 2");
+    println!("edition 00000000000000002\nedition 0000000000000002");
+    large_stores(session);
+}
+
+/// Stores of 38,012 bytes and near it, and the longest line.
+fn large_stores(mut session: Session) {
+    let mut bytes = store::encode(EDITION_2, &[held(2, &[RBC, NEXT_RBC])]);
+    store_line(&bytes);
+    println!("show");
+    search(NEXT_RBC, NOON);
+    keys(1);
+    put_header(&mut bytes, &store::encode(EDITION_1, &[]));
+    store_line(&bytes);
+    println!("show");
+    search(NEXT_RBC, NOON);
+    keys(1);
+    session.send(kind::DELETE_KEYS, &requests(&[identifier(2)]));
+    session.send(kind::DELETE_ALL_KEYS, &[]);
+    println!("show");
+    store_line(&bytes[1..]);
+    let longest = (LINE - "message ".len()) / 2;
+    session.send(kind::ADD_KEYS, &vec![0; longest - message::HEADER_LENGTH]);
+    println!("show");
+}
+
+/// An entry as the centre would add it.
+fn held(serial: u32, list: &[Identity]) -> Entry {
+    Entry {
+        key: KeyIdentifier {
+            issuer: CENTRE,
+            serial: serial.to_be_bytes(),
+        },
+        kmac: kmac(serial),
+        start: u32::from_be_bytes(START),
+        end: u32::from_be_bytes(END),
+        peers: list.to_vec(),
+    }
+}
+
+fn store_line(bytes: &[u8]) {
+    println!("store {}", encode(bytes));
+}
+
+/// Edition, offset of peers and length of another store; the counts stay.
+fn put_header(bytes: &mut [u8], other: &[u8]) {
+    for part in [0..2, 8..12] {
+        bytes[part.clone()].copy_from_slice(&other[part]);
+    }
+}
+
+/// Stores of 3,852 bytes that are not sound: key count 1 and the first record zero, then the header of edition 2.
 fn unsound() {
-    let mut bytes = reference::store::encode(&[]);
-    println!("store {}", encode(&bytes));
+    let mut bytes = store::encode(EDITION_1, &[]);
+    store_line(&bytes);
     println!("show");
     bytes[3] = 1;
-    println!("store {}\nshow", encode(&bytes));
+    store_line(&bytes);
+    println!("show");
     search(RBC, NOON);
     keys(1);
     let mut session = Session::open(TUG, 1, 1);
     session.send(kind::DELETE_KEYS, &requests(&[identifier(1)]));
     println!("store 00\nempty\nshow");
+    let mut bytes = store::encode(EDITION_1, &[]);
+    put_header(&mut bytes, &store::encode(EDITION_2, &[]));
+    store_line(&bytes);
+    println!("show");
+    search(RBC, NOON);
+    session.send(kind::DELETE_KEYS, &requests(&[identifier(1)]));
+    session.send(kind::DELETE_ALL_KEYS, &[]);
+    println!("show");
 }

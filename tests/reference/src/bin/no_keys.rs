@@ -6,9 +6,12 @@
 use reference::authentication::session_keys;
 use reference::hex::encode;
 use reference::message::{body, kind, Body, Header, HEADER_LENGTH};
-use reference::store::{decode, Request};
+use reference::store::{Edition, Request, KEYS_AT, RECORD_LENGTH};
 
 type Key = [u8; 24];
+
+/// A record's KMAC stands behind issuer and serial (01, "The key store").
+const KMAC_AT: usize = 8;
 
 fn main() {
     let mut names = std::env::args().skip(1);
@@ -48,13 +51,22 @@ fn kmacs_of(line: &str) -> Vec<Key> {
     let words: Vec<&str> = line.split_whitespace().collect();
     match words[..] {
         ["message", digits] => added(&bytes(digits)),
-        ["store", digits] => decode(&bytes(digits))
-            .unwrap_or_default()
-            .iter()
-            .map(|entry| entry.kmac)
-            .collect(),
+        ["store", digits] => stored(&bytes(digits)),
         _ => Vec::new(),
     }
+}
+
+/// The KMACs of a store of either edition, sound or not: what stands at a record's place with odd parity.
+fn stored(store: &[u8]) -> Vec<Key> {
+    let Some(edition) = Edition::of_length(store.len()) else {
+        return Vec::new();
+    };
+    let is_odd = |key: &Key| key.iter().all(|byte| byte.count_ones() % 2 == 1);
+    store[KEYS_AT..edition.peers_at()]
+        .chunks(RECORD_LENGTH)
+        .filter_map(|record| record[KMAC_AT..].first_chunk().copied())
+        .filter(is_odd)
+        .collect()
 }
 
 fn added(message: &[u8]) -> Vec<Key> {
@@ -100,14 +112,55 @@ fn pieces_shown(keys: &[Key], output: &str) -> usize {
 #[cfg(test)]
 mod tests {
     use super::*;
+    use reference::store::encode as encode_store;
+    use reference::store::{Entry, KeyIdentifier, EDITIONS};
 
     const INPUT: &str = include_str!("../../../../examples/update.txt");
     const OUTPUT: &str = include_str!("../../../../examples/update.out");
+
+    const DEPOT: &str = include_str!("../../../../examples/depot.txt");
 
     #[test]
     fn keys_are_found() {
         // Serials 1 to 4, one of them with a byte of even parity, and a session key of each.
         assert_eq!(keys_of(INPUT).len(), 8);
+        // 75 keys, which edition 1 would not take, and a session key of each.
+        assert_eq!(keys_of(DEPOT).len(), 150);
+    }
+
+    #[test]
+    fn keys_of_either_edition_are_found_in_a_store() {
+        for edition in EDITIONS {
+            let entries: Vec<Entry> = (0..edition.keys_max).map(entry).collect();
+            let mut store = encode_store(edition, &entries);
+            let kmacs: Vec<Key> = entries.iter().map(|entry| entry.kmac).collect();
+            assert_eq!(stored(&store), kmacs);
+            // The number of the other edition: unsound, and its keys count all the same.
+            store[1] = 3 - store[1];
+            assert_eq!(stored(&store), kmacs);
+            let lines = format!("edition {}\nstore {}\n", edition.number, encode(&store));
+            assert_eq!(keys_of(&lines).len(), entries.len());
+            assert_eq!(stored(&encode_store(edition, &[])), [[0; 24]; 0]);
+        }
+        assert_eq!(stored(&[0; 12]), [[0; 24]; 0]);
+    }
+
+    /// Each number has a KMAC of its own.
+    fn entry(number: usize) -> Entry {
+        let odd = |n: usize| 2 * n as u8 + u8::from(n.count_ones() % 2 == 0);
+        let mut kmac = [1; 24];
+        kmac[0] = odd(number % 128);
+        kmac[23] = odd(number / 128);
+        Entry {
+            key: KeyIdentifier {
+                issuer: [5; 4],
+                serial: (number as u32).to_be_bytes(),
+            },
+            kmac,
+            start: 0,
+            end: 1,
+            peers: vec![[9; 4]],
+        }
     }
 
     #[test]

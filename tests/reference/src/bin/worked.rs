@@ -1,8 +1,10 @@
-//! Prints the worked numbers of sessions and the store (01) as WORKED.md asks, for comparison line by line.
+//! Prints the worked numbers of sessions and the store (01, and 02, change request 5) as WORKED.md asks, for
+//! comparison line by line.
 
 use reference::message::{assemble, kind, response, session_init, HEADER_LENGTH};
 use reference::session::{begin, receive, Answer, Session};
-use reference::store::{decode, encode, find, Entry, KeyIdentifier, LENGTH};
+use reference::store::{decode, encode, find, Edition, Entry, KeyIdentifier};
+use reference::store::{EDITION_1, EDITION_2};
 use reference::{Identity, OUTPUT_LENGTH};
 
 const OWN: Identity = [0, 0, 0, 7];
@@ -22,12 +24,20 @@ const CENTRE_START: u16 = 40;
 const LENGTH_LOW: usize = 3;
 const RECEIVER_AT: usize = 5;
 
-/// Byte of the edition's low half in the store's header.
+/// Byte of the edition's low half in the store's header, and the header's length.
 const EDITION_LOW: usize = 1;
+const STORE_HEADER: usize = 12;
 
-/// All cases work on the one buffer, each on what the one before left.
+/// The cases of an edition work on one buffer, each on what the one before left.
 fn main() {
-    let store = &mut [0; LENGTH];
+    let small = &mut [0; EDITION_1.length()];
+    let large = &mut [0; EDITION_2.length()];
+    edition_1(small);
+    edition_2(large);
+    header_of(EDITION_2, small);
+}
+
+fn edition_1(store: &mut [u8]) {
     one_key(store);
     full_of_keys(store);
     full_of_peers(store);
@@ -39,9 +49,18 @@ fn main() {
     several_records(store);
     all_deleted(store);
     refused_searches(store);
-    delete_all(store);
+    delete_all_of_unsound(store);
     last_number(store);
     wrong_header(store);
+}
+
+fn edition_2(store: &mut [u8]) {
+    full_of_500_keys(store);
+    full_of_4000_peers(store);
+    moments_of_many(store);
+    header_of(EDITION_1, store);
+    not_zero(store);
+    parts_of(store);
 }
 
 fn one_key(store: &mut [u8]) {
@@ -147,8 +166,7 @@ fn all_deleted(store: &mut [u8]) {
     search(store, "the other then", OTHER, 5);
     request(store, "delete the third", delete(3));
     request(store, "delete the second", delete(2));
-    let not_zero = store.iter().filter(|&&byte| byte != 0).count();
-    println!("bytes not zero: {not_zero}");
+    not_zero(store);
 }
 
 fn refused_searches(store: &mut [u8]) {
@@ -157,10 +175,8 @@ fn refused_searches(store: &mut [u8]) {
     search(store, "unsound store", PEER, 5);
 }
 
-fn delete_all(store: &mut [u8]) {
-    let session = opened(CENTRE_START, store);
-    let message = message(CENTRE_START + 1, kind::DELETE_ALL_KEYS, &[]);
-    deliver(session, store, "delete all", &message);
+fn delete_all_of_unsound(store: &mut [u8]) {
+    delete_all(store);
     search(store, "delete all, the peer", PEER, 5);
 }
 
@@ -178,6 +194,66 @@ fn wrong_header(store: &mut [u8]) {
     wrong[LENGTH_LOW] += 1;
     wrong[RECEIVER_AT..][..4].copy_from_slice(&STRANGER);
     deliver(session, store, "length and receiver both wrong", &wrong);
+}
+
+fn full_of_500_keys(store: &mut [u8]) {
+    clear(store);
+    let keys: Vec<_> = (1..=500)
+        .map(|serial| k_struct(OWN, &entry(serial, 8)))
+        .collect();
+    for fifty in keys[..450].chunks(50) {
+        command(store, "450 keys", kind::ADD_KEYS, fifty);
+    }
+    command(store, "500 keys", kind::ADD_KEYS, &keys[450..]);
+    counts(store);
+    request(store, "500 keys, add", add(501, 8));
+    request(store, "500 keys, add a held one", add(5, 8));
+    request(store, "delete the tenth", delete(10));
+    let for_other = Entry {
+        peers: vec![OTHER; 8],
+        ..entry(501, 8)
+    };
+    request(store, "add for another", add_for(OWN, &for_other));
+    search(store, "the other", OTHER, 8);
+    counts(store);
+}
+
+fn full_of_4000_peers(store: &mut [u8]) {
+    clear(store);
+    for serial in 1..=3 {
+        request(store, "3000 peers", add(serial, 1000));
+    }
+    request(store, "3997 peers", add(4, 997));
+    request(store, "3997 peers, add with 4", add(5, 4));
+    request(store, "3997 peers, add with 3", add(5, 3));
+    counts(store);
+    request(store, "the fourth by 987", entities(4, PEER, 987));
+    request(store, "10 peers", add(6, 10));
+    request(store, "4000 peers, 10 by 10", entities(6, PEER, 10));
+    request(store, "4000 peers, 10 by 11", entities(6, PEER, 11));
+    counts(store);
+}
+
+fn moments_of_many(store: &mut [u8]) {
+    search(store, "T is 8", PEER, 8);
+    search(store, "last byte of the peer", [0x11, 0x22, 0x33, 0x45], 8);
+}
+
+/// The header of another edition than the length's, until delete all writes the right one.
+fn header_of(edition: Edition, store: &mut [u8]) {
+    let name = format!("header of edition {}", edition.number);
+    clear(store);
+    store[..STORE_HEADER].copy_from_slice(&encode(edition, &[])[..STORE_HEADER]);
+    request(store, &name, delete(1));
+    search(store, &format!("{name}, search"), PEER, 5);
+    delete_all(store);
+    header(store);
+}
+
+fn parts_of(store: &[u8]) {
+    for length in [3851, 3852, 3853, 38011] {
+        search(&store[..length], &format!("{length} bytes"), PEER, 5);
+    }
 }
 
 fn identifier(serial: u32) -> KeyIdentifier {
@@ -257,9 +333,10 @@ fn message(number: u16, kind: u8, body: &[u8]) -> Vec<u8> {
     assemble(OWN, CENTRE, TRANSACTION, number, kind, body)
 }
 
-/// Makes the buffer the empty store.
+/// Makes the buffer the empty store of its length.
 fn clear(store: &mut [u8]) {
-    store.copy_from_slice(&encode(&[]));
+    let edition = Edition::of_length(store.len()).expect("the buffer has an edition's length");
+    store.copy_from_slice(&encode(edition, &[]));
 }
 
 fn entries(store: &[u8]) -> Vec<Entry> {
@@ -310,6 +387,12 @@ fn request(store: &mut [u8], name: &str, (kind, request): Command) {
     command(store, name, kind, &[request]);
 }
 
+fn delete_all(store: &mut [u8]) {
+    let session = opened(CENTRE_START, store);
+    let message = message(CENTRE_START + 1, kind::DELETE_ALL_KEYS, &[]);
+    deliver(session, store, "delete all", &message);
+}
+
 /// NAME: PLACE.
 fn search(store: &[u8], name: &str, peer: Identity, t: u32) {
     match find(store, &peer, t) {
@@ -342,4 +425,17 @@ fn records(store: &[u8]) {
 fn counts(store: &[u8]) {
     let number = |at: usize| u16::from_be_bytes([store[at], store[at + 1]]);
     println!("counts: {} {}", number(2), number(6));
+}
+
+fn not_zero(store: &[u8]) {
+    let count = store.iter().filter(|&&byte| byte != 0).count();
+    println!("bytes not zero: {count}");
+}
+
+fn header(store: &[u8]) {
+    print!("header:");
+    for byte in &store[..STORE_HEADER] {
+        print!(" {byte}");
+    }
+    println!();
 }

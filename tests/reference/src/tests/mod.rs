@@ -12,7 +12,7 @@ mod store;
 
 use crate::message::kind;
 use crate::session::{receive, Answer, Session, OPEN};
-use crate::store::{decode, encode, Entry, KeyIdentifier};
+use crate::store::{decode, encode, Edition, Entry, KeyIdentifier};
 use crate::Identity;
 
 const OWN: Identity = [0x02, 0xe6, 0xa5, 0x4b];
@@ -41,8 +41,9 @@ fn identifier(number: u32) -> KeyIdentifier {
 
 /// `count` peers that no other number has.
 fn peers(number: u32, count: usize) -> Vec<Identity> {
+    let [_, _, upper, lower] = number.to_be_bytes();
     (0..count)
-        .map(|i| [0x01, number as u8, (i >> 8) as u8, i as u8])
+        .map(|i| [0x01 + upper, lower, (i >> 8) as u8, i as u8])
         .collect()
 }
 
@@ -70,6 +71,12 @@ fn entries(peer_counts: &[usize]) -> Vec<Entry> {
         .zip(peer_counts)
         .map(|(n, &count)| entry(n, count))
         .collect()
+}
+
+/// As many entries as the edition takes, and with them as many peers: 64 by 4, or 500 by 8.
+fn full(edition: Edition) -> Vec<Entry> {
+    let peers_each = edition.peers_max / edition.keys_max;
+    entries(&vec![peers_each; edition.keys_max])
 }
 
 /// K-IDENTIFIER (000, 5.3.4.2).
@@ -169,10 +176,10 @@ struct Bench {
 }
 
 impl Bench {
-    fn new(entries: &[Entry]) -> Bench {
+    fn new(edition: Edition, entries: &[Entry]) -> Bench {
         Bench {
             session: open_session(),
-            store: encode(entries),
+            store: encode(edition, entries),
             out: vec![0xee; 1032],
         }
     }

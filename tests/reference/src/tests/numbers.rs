@@ -1,90 +1,109 @@
-//! The numbers of 01, "Numbers to work by hand".
+//! The numbers of 01, "Numbers to work by hand", at the limits of each edition: where 01 says 64 keys and
+//! 256 peers, edition 2 has 500 and 4,000.
 
 use super::{entries, entry, k_struct, k_struct_for, message, peers, reply, Bench};
 use super::{CENTRE, OWN, RECEIVER_AT};
 use crate::authentication::{check, mac};
 use crate::message::kind;
 use crate::session::{CLOSED, OPEN};
-use crate::store::{encode, find};
+use crate::store::{encode, find, EDITIONS, EDITION_1};
 
 #[test]
 fn empty_store_delete() {
-    let mut bench = Bench::new(&[]);
-    assert_eq!(bench.delete(&[1]), [1]);
-    assert_eq!(bench.store, encode(&[]));
+    for edition in EDITIONS {
+        let mut bench = Bench::new(edition, &[]);
+        assert_eq!(bench.delete(&[1]), [1]);
+        assert_eq!(bench.store, encode(edition, &[]));
+    }
 }
 
 #[test]
 fn one_key_twice_in_a_message() {
-    let mut bench = Bench::new(&[]);
-    assert_eq!(bench.add(&[entry(1, 2), entry(1, 2)]), [0, 3]);
-    assert_eq!(bench.entries(), entries(&[2]));
+    for edition in EDITIONS {
+        let mut bench = Bench::new(edition, &[]);
+        assert_eq!(bench.add(&[entry(1, 2), entry(1, 2)]), [0, 3]);
+        assert_eq!(bench.entries(), entries(&[2]));
+    }
 }
 
 #[test]
-fn sixty_four_keys() {
-    let mut bench = Bench::new(&entries(&[1; 64]));
-    assert_eq!(bench.add(&[entry(65, 1)]), [2]);
-    assert_eq!(bench.entries(), entries(&[1; 64]));
-    assert_eq!(bench.delete(&[10]), [0]);
-    assert_eq!(bench.add(&[entry(65, 1)]), [0]);
-    let held = bench.entries();
-    assert_eq!(held.len(), 64);
-    assert_eq!(held[8], entry(9, 1));
-    assert_eq!(held[9], entry(11, 1));
-    assert_eq!(held[63], entry(65, 1));
+fn as_many_keys_as_the_edition_takes() {
+    for (edition, most) in EDITIONS.into_iter().zip([64, 500]) {
+        let list = entries(&vec![1; most]);
+        let next = [entry(most as u32 + 1, 1)];
+        let mut bench = Bench::new(edition, &list);
+        assert_eq!(bench.add(&next), [2]);
+        assert_eq!(bench.entries(), list);
+        assert_eq!(bench.delete(&[10]), [0]);
+        assert_eq!(bench.add(&next), [0]);
+        let held = bench.entries();
+        assert_eq!(held.len(), most);
+        assert_eq!(held[8], entry(9, 1));
+        assert_eq!(held[9], entry(11, 1));
+        assert_eq!(held[most - 1..], next);
+    }
 }
 
 #[test]
-fn peers_used_253() {
-    let mut bench = Bench::new(&entries(&[200, 53]));
-    assert_eq!(bench.add(&[entry(3, 4)]), [255]);
-    assert_eq!(bench.entries(), entries(&[200, 53]));
-    assert_eq!(bench.add(&[entry(3, 3)]), [0]);
-    assert_eq!(bench.entries(), entries(&[200, 53, 3]));
+fn all_peers_but_three_used() {
+    for (edition, used) in EDITIONS.into_iter().zip([253, 3997]) {
+        let list = entries(&[used - 53, 53]);
+        let mut bench = Bench::new(edition, &list);
+        assert_eq!(bench.add(&[entry(3, 4)]), [255]);
+        assert_eq!(bench.entries(), list);
+        assert_eq!(bench.add(&[entry(3, 3)]), [0]);
+        assert_eq!(bench.entries(), entries(&[used - 53, 53, 3]));
+    }
 }
 
 #[test]
-fn peers_used_256() {
-    let mut bench = Bench::new(&entries(&[240, 10, 6]));
-    assert_eq!(bench.replace_peers(2, &peers(200, 11)), [255]);
-    assert_eq!(bench.entries(), entries(&[240, 10, 6]));
-    assert_eq!(bench.replace_peers(2, &peers(200, 10)), [0]);
-    assert_eq!(bench.entries()[1].peers, peers(200, 10));
-    assert_eq!(bench.entries()[2], entry(3, 6));
+fn all_peers_used() {
+    for (edition, used) in EDITIONS.into_iter().zip([256, 4000]) {
+        let list = entries(&[used - 16, 10, 6]);
+        let mut bench = Bench::new(edition, &list);
+        assert_eq!(bench.replace_peers(2, &peers(200, 11)), [255]);
+        assert_eq!(bench.entries(), list);
+        assert_eq!(bench.replace_peers(2, &peers(200, 10)), [0]);
+        assert_eq!(bench.entries()[1].peers, peers(200, 10));
+        assert_eq!(bench.entries()[2], entry(3, 6));
+    }
 }
 
 #[test]
 fn kmac_byte_zero() {
-    let mut bench = Bench::new(&[]);
-    let mut bad = entry(1, 1);
-    bad.kmac[5] = 0;
-    assert_eq!(bench.work(kind::ADD_KEYS, &[k_struct(&bad)]), [4]);
-    let elsewhere = k_struct_for(CENTRE, &bad);
-    assert_eq!(bench.work(kind::ADD_KEYS, &[elsewhere]), [5]);
-    assert_eq!(bench.store, encode(&[]));
+    for edition in EDITIONS {
+        let mut bench = Bench::new(edition, &[]);
+        let mut bad = entry(1, 1);
+        bad.kmac[5] = 0;
+        assert_eq!(bench.work(kind::ADD_KEYS, &[k_struct(&bad)]), [4]);
+        let elsewhere = k_struct_for(CENTRE, &bad);
+        assert_eq!(bench.work(kind::ADD_KEYS, &[elsewhere]), [5]);
+        assert_eq!(bench.store, encode(edition, &[]));
+    }
 }
 
 #[test]
 fn moment_against_start_and_end() {
-    let mut list = entries(&[1]);
-    (list[0].start, list[0].end) = (100, 200);
-    let peer = list[0].peers[0];
-    let store = encode(&list);
-    assert_eq!(find(&store, &peer, 99), Err(11));
-    assert_eq!(find(&store, &peer, 100), Ok(1));
-    assert_eq!(find(&store, &peer, 199), Ok(1));
-    assert_eq!(find(&store, &peer, 200), Err(11));
-    list[0].end = 100;
-    let store = encode(&list);
-    for t in [99, 100, 101] {
-        assert_eq!(find(&store, &peer, t), Err(11));
+    for edition in EDITIONS {
+        let mut list = entries(&[1]);
+        (list[0].start, list[0].end) = (100, 200);
+        let peer = list[0].peers[0];
+        let store = encode(edition, &list);
+        assert_eq!(find(&store, &peer, 99), Err(11));
+        assert_eq!(find(&store, &peer, 100), Ok(1));
+        assert_eq!(find(&store, &peer, 199), Ok(1));
+        assert_eq!(find(&store, &peer, 200), Err(11));
+        list[0].end = 100;
+        let store = encode(edition, &list);
+        for t in [99, 100, 101] {
+            assert_eq!(find(&store, &peer, t), Err(11));
+        }
     }
 }
 
 #[test]
 fn zero_is_expected_after_65535() {
-    let mut bench = Bench::new(&[]);
+    let mut bench = Bench::new(EDITION_1, &[]);
     bench.session.expected = 65535;
     bench.session.next = 65535;
     let first = message(kind::DELETE_ALL_KEYS, 65535, &[]);
@@ -98,7 +117,7 @@ fn zero_is_expected_after_65535() {
 
 #[test]
 fn length_and_receiver_both_wrong() {
-    let mut bench = Bench::new(&[]);
+    let mut bench = Bench::new(EDITION_1, &[]);
     let mut wrong = message(kind::DELETE_ALL_KEYS, 300, &[]);
     wrong[3] += 1;
     wrong[RECEIVER_AT] ^= 1;

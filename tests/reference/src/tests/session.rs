@@ -1,11 +1,11 @@
 //! Beginning, opening, the table of tests, the bodies, and the refusals in their order.
 
-use super::{entries, entry, k_entities, k_identifier, k_struct, k_validity, message, peer_list};
-use super::{open_session, peers, reply, requests, Bench, CENTRE, OWN};
+use super::{entries, entry, full, k_entities, k_identifier, k_struct, k_validity, message};
+use super::{open_session, peer_list, peers, reply, requests, Bench, CENTRE, OWN};
 use super::{RECEIVER_AT, SENDER_AT, SEQUENCE_AT, TYPE_AT, VERSION_AT};
 use crate::message::kind;
 use crate::session::{begin, receive, Answer, Session, CLOSED, OPEN, WAITING};
-use crate::store::encode;
+use crate::store::{encode, find, Edition, EDITIONS, EDITION_1, EDITION_2};
 
 const COMMANDS_WITH_REQUESTS: [u8; 4] = [
     kind::ADD_KEYS,
@@ -36,15 +36,34 @@ fn structure(command: u8) -> Vec<u8> {
     }
 }
 
-fn unsound() -> Vec<u8> {
-    let mut store = encode(&entries(&[1]));
-    store[3851] = 1;
+fn unsound(edition: Edition) -> Vec<u8> {
+    let mut store = encode(edition, &entries(&[1]));
+    store[edition.length() - 1] = 1;
     store
 }
 
+/// A sound store of the other edition, cut or filled up with zeros to the length of this one.
+fn of_the_other(edition: Edition) -> Vec<u8> {
+    let other = if edition == EDITION_1 {
+        EDITION_2
+    } else {
+        EDITION_1
+    };
+    let mut store = encode(other, &entries(&[1]));
+    store.resize(edition.length(), 0);
+    store
+}
+
+/// Asserts the RESPONSE over a store of each edition that holds key 1.
+fn assert_response(message: &[u8], response: u8, state: u8) {
+    for edition in EDITIONS {
+        assert_response_over(encode(edition, &entries(&[1])), message, response, state);
+    }
+}
+
 /// Asserts one reply with a RESPONSE other than 0, that the store stays, and the session.
-fn assert_response(store: Vec<u8>, message: &[u8], response: u8, state: u8) {
-    let mut bench = Bench::new(&[]);
+fn assert_response_over(store: Vec<u8>, message: &[u8], response: u8, state: u8) {
+    let mut bench = Bench::new(EDITION_1, &[]);
     bench.store = store.clone();
     bench.assert_reply(message, &reply(700, response, &[]));
     assert_eq!(bench.store, store);
@@ -59,16 +78,17 @@ fn assert_response(store: Vec<u8>, message: &[u8], response: u8, state: u8) {
 
 /// Asserts RESPONSE 11 for a body.
 fn assert_format_error(kind: u8, body: &[u8]) {
-    let store = encode(&entries(&[1]));
-    assert_response(store, &message(kind, 300, body), 11, CLOSED);
+    assert_response(&message(kind, 300, body), 11, CLOSED);
 }
 
 /// Asserts RESPONSE 0 for a body.
 fn assert_accepted(kind: u8, body: &[u8]) {
-    let mut bench = Bench::new(&entries(&[1]));
-    bench.receive(&message(kind, 300, body));
-    assert_eq!(bench.out[20], 0);
-    assert_eq!(bench.session.state, OPEN);
+    for edition in EDITIONS {
+        let mut bench = Bench::new(edition, &entries(&[1]));
+        bench.receive(&message(kind, 300, body));
+        assert_eq!(bench.out[20], 0);
+        assert_eq!(bench.session.state, OPEN);
+    }
 }
 
 #[test]
@@ -123,32 +143,42 @@ fn a_session_init_opens() {
     ];
     for body in bodies {
         for sequence in [0, 41, 65535] {
-            let mut bench = Bench::new(&entries(&[1]));
-            bench.session = waiting();
-            let answer = bench.receive(&session_init(sequence, &body));
-            assert_eq!(answer, Answer::Opened);
-            let opened = Session {
-                state: OPEN,
-                expected: sequence.wrapping_add(1),
-                ..waiting()
-            };
-            assert_eq!(bench.session, opened);
-            assert_eq!(bench.out, [0xee; 1032]);
-            assert_eq!(bench.store, encode(&entries(&[1])));
+            for edition in EDITIONS {
+                assert_opened(edition, sequence, &body);
+            }
         }
     }
 }
 
+fn assert_opened(edition: Edition, sequence: u16, body: &[u8]) {
+    let mut bench = Bench::new(edition, &entries(&[1]));
+    bench.session = waiting();
+    let answer = bench.receive(&session_init(sequence, body));
+    assert_eq!(answer, Answer::Opened);
+    let opened = Session {
+        state: OPEN,
+        expected: sequence.wrapping_add(1),
+        ..waiting()
+    };
+    assert_eq!(bench.session, opened);
+    assert_eq!(bench.out, [0xee; 1032]);
+    assert_eq!(bench.store, encode(edition, &entries(&[1])));
+}
+
 #[test]
 fn a_session_init_opens_over_an_unsound_store() {
-    let mut bench = Bench::new(&[]);
-    bench.session = waiting();
-    bench.store = unsound();
-    assert_eq!(
-        bench.receive(&session_init(5, &[1, 2, 255])),
-        Answer::Opened
-    );
-    assert_eq!(bench.store, unsound());
+    for edition in EDITIONS {
+        for store in [unsound(edition), of_the_other(edition)] {
+            let mut bench = Bench::new(edition, &[]);
+            bench.session = waiting();
+            bench.store = store.clone();
+            assert_eq!(
+                bench.receive(&session_init(5, &[1, 2, 255])),
+                Answer::Opened
+            );
+            assert_eq!(bench.store, store);
+        }
+    }
 }
 
 #[test]
@@ -185,17 +215,23 @@ fn anything_else_closes_a_waiting_session() {
     ];
     messages.extend(bodies.map(|body| session_init(5, body)));
     for message in messages {
-        let mut bench = Bench::new(&entries(&[1]));
-        bench.session = waiting();
-        assert_eq!(bench.receive(&message), Answer::Refused(5));
-        let closed = Session {
-            state: CLOSED,
-            ..waiting()
-        };
-        assert_eq!(bench.session, closed);
-        assert_eq!(bench.out, [0xee; 1032]);
-        assert_eq!(bench.store, encode(&entries(&[1])));
+        for edition in EDITIONS {
+            assert_not_opened(edition, &message);
+        }
     }
+}
+
+fn assert_not_opened(edition: Edition, message: &[u8]) {
+    let mut bench = Bench::new(edition, &entries(&[1]));
+    bench.session = waiting();
+    assert_eq!(bench.receive(message), Answer::Refused(5));
+    let closed = Session {
+        state: CLOSED,
+        ..waiting()
+    };
+    assert_eq!(bench.session, closed);
+    assert_eq!(bench.out, [0xee; 1032]);
+    assert_eq!(bench.store, encode(edition, &entries(&[1])));
 }
 
 #[test]
@@ -203,7 +239,7 @@ fn row_length() {
     for at in 0..4 {
         let mut wrong = message(kind::DELETE_ALL_KEYS, 300, &[]);
         wrong[at] ^= 1;
-        assert_response(encode(&entries(&[1])), &wrong, 2, CLOSED);
+        assert_response(&wrong, 2, CLOSED);
     }
 }
 
@@ -211,9 +247,9 @@ fn row_length() {
 fn row_length_over_5000() {
     let long = message(kind::DELETE_KEYS, 300, &[0; 4981]);
     assert_eq!(long.len(), 5001);
-    assert_response(encode(&entries(&[1])), &long, 2, CLOSED);
+    assert_response(&long, 2, CLOSED);
     let allowed = message(kind::DELETE_KEYS, 300, &[0; 4980]);
-    assert_response(encode(&entries(&[1])), &allowed, 11, CLOSED);
+    assert_response(&allowed, 11, CLOSED);
 }
 
 #[test]
@@ -221,7 +257,7 @@ fn row_version() {
     for version in [0, 1, 3, 255] {
         let mut wrong = message(kind::DELETE_ALL_KEYS, 300, &[]);
         wrong[VERSION_AT] = version;
-        assert_response(encode(&entries(&[1])), &wrong, 5, CLOSED);
+        assert_response(&wrong, 5, CLOSED);
     }
 }
 
@@ -229,21 +265,21 @@ fn row_version() {
 fn row_receiver() {
     let mut wrong = message(kind::DELETE_ALL_KEYS, 300, &[]);
     wrong[RECEIVER_AT..RECEIVER_AT + 4].copy_from_slice(&CENTRE);
-    assert_response(encode(&entries(&[1])), &wrong, 4, CLOSED);
+    assert_response(&wrong, 4, CLOSED);
 }
 
 #[test]
 fn row_sender() {
     let mut wrong = message(kind::DELETE_ALL_KEYS, 300, &[]);
     wrong[SENDER_AT..SENDER_AT + 4].copy_from_slice(&OWN);
-    assert_response(encode(&entries(&[1])), &wrong, 3, CLOSED);
+    assert_response(&wrong, 3, CLOSED);
 }
 
 #[test]
 fn row_sequence() {
     for sequence in [0, 299, 301, 300 ^ 0x0100, 65535] {
         let wrong = message(kind::DELETE_ALL_KEYS, sequence, &[]);
-        assert_response(encode(&entries(&[1])), &wrong, 9, CLOSED);
+        assert_response(&wrong, 9, CLOSED);
     }
 }
 
@@ -251,7 +287,7 @@ fn row_sequence() {
 fn row_type() {
     for kind in (5..=9).chain(11..=255) {
         let other = message(kind, 300, &[1, 2, 255]);
-        assert_response(encode(&entries(&[1])), &other, 1, OPEN);
+        assert_response(&other, 1, OPEN);
     }
 }
 
@@ -293,7 +329,7 @@ fn row_body_most_adds() {
     assert_accepted(command, &requests(&vec![structure(command); 97]));
     let one_more = requests(&vec![structure(command); 98]);
     let long = message(command, 300, &one_more);
-    assert_response(encode(&entries(&[1])), &long, 2, CLOSED);
+    assert_response(&long, 2, CLOSED);
 }
 
 #[test]
@@ -339,43 +375,75 @@ fn row_body_fault_in_the_last_request_works_none() {
 fn row_store() {
     for command in COMMANDS_WITH_REQUESTS {
         let command = message(command, 300, &requests(&[structure(command)]));
-        assert_response(unsound(), &command, 6, OPEN);
-        assert_response(vec![0; 3852], &command, 6, OPEN);
+        for edition in EDITIONS {
+            assert_response_over(unsound(edition), &command, 6, OPEN);
+            assert_response_over(vec![0; edition.length()], &command, 6, OPEN);
+        }
     }
 }
 
+/// Header and length disagree: either way the store is judged unsound, and stays.
+#[test]
+fn row_store_of_the_other_edition() {
+    for command in COMMANDS_WITH_REQUESTS {
+        let command = message(command, 300, &requests(&[structure(command)]));
+        for edition in EDITIONS {
+            assert_response_over(of_the_other(edition), &command, 6, OPEN);
+        }
+    }
+}
+
+/// The empty store is that of the length, whatever the header said.
 #[test]
 fn delete_all_takes_any_store() {
-    for store in [unsound(), vec![0xff; 3852], encode(&entries(&[4; 64]))] {
-        let mut bench = Bench::new(&[]);
-        bench.store = store;
-        let command = message(kind::DELETE_ALL_KEYS, 300, &[]);
-        bench.assert_reply(&command, &reply(700, 0, &[]));
-        assert_eq!(bench.store, encode(&[]));
-        assert_eq!((bench.session.state, bench.session.expected), (OPEN, 301));
+    for edition in EDITIONS {
+        let stores = [
+            unsound(edition),
+            of_the_other(edition),
+            vec![0xff; edition.length()],
+            encode(edition, &full(edition)),
+        ];
+        for store in stores {
+            let mut bench = Bench::new(edition, &[]);
+            bench.store = store;
+            let command = message(kind::DELETE_ALL_KEYS, 300, &[]);
+            bench.assert_reply(&command, &reply(700, 0, &[]));
+            assert_eq!(bench.store, encode(edition, &[]));
+            assert_eq!((bench.session.state, bench.session.expected), (OPEN, 301));
+        }
     }
 }
 
 #[test]
 fn end_of_update_closes_and_writes_nothing() {
-    for store in [encode(&entries(&[1])), unsound()] {
-        let mut bench = Bench::new(&[]);
-        bench.store = store.clone();
-        let end = message(kind::END_OF_UPDATE, 300, &[]);
-        assert_eq!(bench.receive(&end), Answer::Ended);
-        let closed = Session {
-            state: CLOSED,
-            ..open_session()
-        };
-        assert_eq!(bench.session, closed);
-        assert_eq!(bench.out, [0xee; 1032]);
-        assert_eq!(bench.store, store);
+    for edition in EDITIONS {
+        let sound = encode(edition, &entries(&[1]));
+        for store in [sound, unsound(edition), of_the_other(edition)] {
+            let mut bench = Bench::new(edition, &[]);
+            bench.store = store.clone();
+            let end = message(kind::END_OF_UPDATE, 300, &[]);
+            assert_eq!(bench.receive(&end), Answer::Ended);
+            let closed = Session {
+                state: CLOSED,
+                ..open_session()
+            };
+            assert_eq!(bench.session, closed);
+            assert_eq!(bench.out, [0xee; 1032]);
+            assert_eq!(bench.store, store);
+        }
+    }
+}
+
+#[test]
+fn rows_are_tested_in_order() {
+    for edition in EDITIONS {
+        assert_rows_in_order(unsound(edition));
+        assert_rows_in_order(of_the_other(edition));
     }
 }
 
 /// All faults at once; the first is mended after each reply.
-#[test]
-fn rows_are_tested_in_order() {
+fn assert_rows_in_order(store: Vec<u8>) {
     let right = message(kind::DELETE_KEYS, 300, &requests(&[k_identifier(1)]));
     let mut faulty = right.clone();
     for at in [0, VERSION_AT, RECEIVER_AT, SENDER_AT, SEQUENCE_AT] {
@@ -393,18 +461,18 @@ fn rows_are_tested_in_order() {
         (11, 20, CLOSED),
     ];
     for (response, at, state) in mend {
-        assert_response(unsound(), &faulty, response, state);
+        assert_response_over(store.clone(), &faulty, response, state);
         faulty[at] = right[at];
     }
     assert_eq!(faulty, right);
-    assert_response(unsound(), &faulty, 6, OPEN);
+    assert_response_over(store, &faulty, 6, OPEN);
 }
 
 #[test]
 fn a_reply_has_the_received_transaction_number() {
     for number in [[0; 4], [0, 0, 0, 1], [0xff; 4]] {
         for (sequence, response) in [(300, 0), (301, 9)] {
-            let mut bench = Bench::new(&[]);
+            let mut bench = Bench::new(EDITION_1, &[]);
             let mut command = message(kind::DELETE_ALL_KEYS, sequence, &[]);
             command[13..17].copy_from_slice(&number);
             let mut expected = reply(700, response, &[]);
@@ -416,7 +484,7 @@ fn a_reply_has_the_received_transaction_number() {
 
 #[test]
 fn a_repeated_transaction_number_is_not_looked_at() {
-    let mut bench = Bench::new(&[]);
+    let mut bench = Bench::new(EDITION_1, &[]);
     for i in 0..3 {
         let command = message(kind::DELETE_ALL_KEYS, 300 + i, &[]);
         bench.assert_reply(&command, &reply(700 + i, 0, &[]));
@@ -425,26 +493,45 @@ fn a_repeated_transaction_number_is_not_looked_at() {
 
 #[test]
 fn the_longest_reply_has_523_bytes() {
-    let mut bench = Bench::new(&entries(&[1]));
-    let results = bench.delete(&[1; 500]);
-    assert_eq!(results[0], 0);
-    assert!(results[1..].iter().all(|&result| result == 1));
-    assert_eq!(bench.out[523..], [0xee; 509]);
+    for edition in EDITIONS {
+        let mut bench = Bench::new(edition, &entries(&[1]));
+        let results = bench.delete(&[1; 500]);
+        assert_eq!(results[0], 0);
+        assert!(results[1..].iter().all(|&result| result == 1));
+        assert_eq!(bench.out[523..], [0xee; 509]);
+    }
+}
+
+/// A full store of edition 2 is emptied by the longest delete.
+#[test]
+fn one_message_deletes_500_keys() {
+    let mut bench = Bench::new(EDITION_2, &full(EDITION_2));
+    let all: Vec<u32> = (1..=500).rev().collect();
+    assert_eq!(bench.delete(&all), [0; 500]);
+    assert_eq!(bench.store, encode(EDITION_2, &[]));
 }
 
 #[test]
 fn an_update_of_validities_reaches_the_store() {
-    let mut bench = Bench::new(&entries(&[2, 3]));
-    let structures = [k_validity(2, 77, 88), k_validity(3, 1, 2)];
-    assert_eq!(bench.work(kind::UPDATE_KEY_VALIDITIES, &structures), [0, 1]);
-    let mut expected = entries(&[2, 3]);
-    (expected[1].start, expected[1].end) = (77, 88);
-    assert_eq!(bench.store, encode(&expected));
+    for edition in EDITIONS {
+        let mut bench = Bench::new(edition, &entries(&[2, 3]));
+        let structures = [k_validity(2, 77, 88), k_validity(3, 1, 2)];
+        assert_eq!(bench.work(kind::UPDATE_KEY_VALIDITIES, &structures), [0, 1]);
+        let mut expected = entries(&[2, 3]);
+        (expected[1].start, expected[1].end) = (77, 88);
+        assert_eq!(bench.store, encode(edition, &expected));
+    }
 }
 
 #[test]
 fn a_whole_session() {
-    let mut bench = Bench::new(&[]);
+    for edition in EDITIONS {
+        whole_session(edition);
+    }
+}
+
+fn whole_session(edition: Edition) {
+    let mut bench = Bench::new(edition, &[]);
     (bench.session, _) = begin(OWN, CENTRE, 699, &mut bench.out).unwrap();
     assert_eq!(
         bench.receive(&session_init(299, &[1, 2, 60])),
@@ -461,52 +548,93 @@ fn a_whole_session() {
     let end = message(kind::END_OF_UPDATE, 303, &[]);
     assert_eq!(bench.receive(&end), Answer::Ended);
     assert_eq!(bench.receive(&end), Answer::Refused(3));
+    assert_eq!(find(&bench.store, &peers(3, 1)[0], 0x1003), Ok(2));
+}
+
+/// Commands alone fill the store, 50 keys a message.
+#[test]
+fn a_whole_session_that_fills_the_store() {
+    for edition in EDITIONS {
+        let mut bench = Bench::new(edition, &[]);
+        let list = full(edition);
+        for keys in list.chunks(50) {
+            assert_eq!(bench.add(keys), vec![0; keys.len()]);
+        }
+        assert_eq!(bench.store, encode(edition, &list));
+        let last = list.last().unwrap();
+        let next = entry(list.len() as u32 + 1, 1);
+        assert_eq!(bench.add(&[next.clone(), last.clone()]), [2, 3]);
+        assert_eq!(bench.store, encode(edition, &list));
+        assert_eq!(bench.delete(&[1]), [0]);
+        let (peer, start) = (next.peers[0], next.start);
+        assert_eq!(bench.add(&[next]), [0]);
+        assert_eq!(find(&bench.store, &peer, start), Ok(list.len()));
+        let end = message(kind::END_OF_UPDATE, bench.session.expected, &[]);
+        assert_eq!(bench.receive(&end), Answer::Ended);
+        assert_eq!(bench.entries()[..list.len() - 1], list[1..]);
+    }
 }
 
 #[test]
 fn the_update_of_entities_has_its_fields_in_order() {
     let body = [&[0, 1][..], &k_identifier(1), &peer_list(&[[9, 8, 7, 6]])].concat();
-    let mut bench = Bench::new(&entries(&[2]));
-    bench.receive(&message(kind::UPDATE_KEY_ENTITIES, 300, &body));
-    assert_eq!(bench.entries()[0].peers, [[9, 8, 7, 6]]);
+    for edition in EDITIONS {
+        let mut bench = Bench::new(edition, &entries(&[2]));
+        bench.receive(&message(kind::UPDATE_KEY_ENTITIES, 300, &body));
+        assert_eq!(bench.entries()[0].peers, [[9, 8, 7, 6]]);
+    }
 }
 
-/// Store length, room, state and message length, each fault with all later ones.
+/// Room, state and message length at either length of store, each fault with all later ones.
 #[test]
 fn message_refusals_in_order() {
     let cases = [
-        (3851, 1031, CLOSED, 19, 1),
-        (3853, 1031, CLOSED, 19, 1),
-        (0, 0, OPEN, 20, 1),
-        (3852, 1031, CLOSED, 19, 2),
-        (3852, 0, OPEN, 20, 2),
-        (3852, 1032, CLOSED, 19, 3),
-        (3852, 1032, CLOSED, 20, 3),
-        (3852, 1032, 3, 20, 3),
-        (3852, 1032, 255, 0, 3),
-        (3852, 1032, OPEN, 19, 4),
-        (3852, 1032, OPEN, 0, 4),
-        (3852, 1032, WAITING, 19, 4),
+        (1031, CLOSED, 19, 2),
+        (0, OPEN, 20, 2),
+        (1032, CLOSED, 19, 3),
+        (1032, CLOSED, 20, 3),
+        (1032, 3, 20, 3),
+        (1032, 255, 0, 3),
+        (1032, OPEN, 19, 4),
+        (1032, OPEN, 0, 4),
+        (1032, WAITING, 19, 4),
     ];
-    for (store_length, room, state, length, refusal) in cases {
-        let session = Session {
-            state,
-            ..open_session()
-        };
-        let mut store = vec![0xdd; store_length];
-        let mut out = vec![0xee; room];
-        let message = &message(kind::DELETE_ALL_KEYS, 300, &[])[..length];
-        let (after, answer) = receive(session, message, &mut store, &mut out);
-        assert_eq!(answer, Answer::Refused(refusal));
-        assert_eq!(after, session);
-        assert_eq!(store, vec![0xdd; store_length]);
-        assert_eq!(out, vec![0xee; room]);
+    for store_length in [3852, 38012] {
+        for (room, state, length, refusal) in cases {
+            assert_refused(store_length, room, state, length, refusal);
+        }
     }
 }
 
 #[test]
+fn a_store_of_neither_length_is_refused_first() {
+    for store_length in [0, 12, 3851, 3853, 38011, 38013] {
+        assert_refused(store_length, 1031, CLOSED, 19, 1);
+        assert_refused(store_length, 0, OPEN, 20, 1);
+        assert_refused(store_length, 1032, OPEN, 20, 1);
+        assert_refused(store_length, 1032, WAITING, 20, 1);
+    }
+}
+
+/// Asserts a refusal that leaves session, store and output.
+fn assert_refused(store_length: usize, room: usize, state: u8, length: usize, refusal: u8) {
+    let session = Session {
+        state,
+        ..open_session()
+    };
+    let mut store = vec![0xdd; store_length];
+    let mut out = vec![0xee; room];
+    let message = &message(kind::DELETE_ALL_KEYS, 300, &[])[..length];
+    let (after, answer) = receive(session, message, &mut store, &mut out);
+    assert_eq!(answer, Answer::Refused(refusal));
+    assert_eq!(after, session);
+    assert_eq!(store, vec![0xdd; store_length]);
+    assert_eq!(out, vec![0xee; room]);
+}
+
+#[test]
 fn a_session_with_itself_is_nothing_special() {
-    let mut bench = Bench::new(&[]);
+    let mut bench = Bench::new(EDITION_1, &[]);
     bench.session.peer = OWN;
     let mut command = message(kind::DELETE_ALL_KEYS, 300, &[]);
     command[SENDER_AT..SENDER_AT + 4].copy_from_slice(&OWN);

@@ -6,7 +6,7 @@ use crate::authentication::mac;
 use crate::des::Des;
 use crate::message::kind;
 use crate::session::CLOSED;
-use crate::store::{encode, find, work, Request};
+use crate::store::{encode, find, work, Request, EDITIONS, EDITION_1};
 
 /// A DES key for each third of the MAC's key.
 const KEYS: [[u8; 8]; 3] = [[0x10; 8], [0x20; 8], [0x40; 8]];
@@ -19,7 +19,7 @@ fn triple_key() -> [u8; 24] {
 fn all_four_bytes_of_receiver_and_sender_are_compared() {
     for (field, response) in [(RECEIVER_AT, 4), (SENDER_AT, 3)] {
         for at in field..field + 4 {
-            let mut bench = Bench::new(&[]);
+            let mut bench = Bench::new(EDITION_1, &[]);
             let mut wrong = message(kind::DELETE_ALL_KEYS, 300, &[]);
             wrong[at] ^= 1;
             bench.assert_reply(&wrong, &reply(700, response, &[]));
@@ -30,7 +30,7 @@ fn all_four_bytes_of_receiver_and_sender_are_compared() {
 #[test]
 fn all_four_bytes_of_the_recipient_are_compared() {
     for at in 0..4 {
-        let mut bench = Bench::new(&[]);
+        let mut bench = Bench::new(EDITION_1, &[]);
         let mut recipient = OWN;
         recipient[at] ^= 1;
         let structure = k_struct_for(recipient, &entry(1, 1));
@@ -46,8 +46,10 @@ fn all_bytes_of_issuer_and_serial_are_compared() {
         let mut serial = identifier(1);
         serial.serial[at] ^= 1;
         for key in [issuer, serial] {
-            let mut list = entries(&[1]);
-            assert_eq!(work(&mut list, &OWN, Request::Delete(key)), 1);
+            for edition in EDITIONS {
+                let mut list = entries(&[1]);
+                assert_eq!(work(edition, &mut list, &OWN, Request::Delete(key)), 1);
+            }
         }
     }
 }
@@ -55,11 +57,13 @@ fn all_bytes_of_issuer_and_serial_are_compared() {
 #[test]
 fn all_four_bytes_of_a_peer_are_compared() {
     let list = entries(&[3]);
-    let store = encode(&list);
-    for at in 0..4 {
-        let mut peer = list[0].peers[0];
-        peer[at] ^= 0x40;
-        assert_eq!(find(&store, &peer, 0x1001), Err(11));
+    for edition in EDITIONS {
+        let store = encode(edition, &list);
+        for at in 0..4 {
+            let mut peer = list[0].peers[0];
+            peer[at] ^= 0x40;
+            assert_eq!(find(&store, &peer, 0x1001), Err(11));
+        }
     }
 }
 
@@ -75,20 +79,24 @@ fn all_four_bytes_tell_own_identity_from_the_peer() {
 
 #[test]
 fn the_old_peer_list_is_not_counted_on_replacement() {
-    let mut bench = Bench::new(&entries(&[256]));
-    assert_eq!(bench.replace_peers(1, &peers(200, 256)), [0]);
-    assert_eq!(bench.entries()[0].peers, peers(200, 256));
+    for edition in EDITIONS {
+        let mut bench = Bench::new(edition, &entries(&[256, edition.peers_max - 256]));
+        assert_eq!(bench.replace_peers(1, &peers(200, 256)), [0]);
+        assert_eq!(bench.entries()[0].peers, peers(200, 256));
+    }
 }
 
 #[test]
 fn earlier_requests_stand_when_a_later_one_fails() {
-    let mut bench = Bench::new(&entries(&[1, 1, 1]));
-    assert_eq!(bench.delete(&[2, 9, 1]), [0, 1, 0]);
-    assert_eq!(bench.entries(), [entry(3, 1)]);
-    let mut bad = entry(5, 1);
-    bad.kmac[0] ^= 1;
-    assert_eq!(bench.add(&[entry(4, 1), bad, entry(6, 1)]), [0, 4, 0]);
-    assert_eq!(bench.entries(), [entry(3, 1), entry(4, 1), entry(6, 1)]);
+    for edition in EDITIONS {
+        let mut bench = Bench::new(edition, &entries(&[1, 1, 1]));
+        assert_eq!(bench.delete(&[2, 9, 1]), [0, 1, 0]);
+        assert_eq!(bench.entries(), [entry(3, 1)]);
+        let mut bad = entry(5, 1);
+        bad.kmac[0] ^= 1;
+        assert_eq!(bench.add(&[entry(4, 1), bad, entry(6, 1)]), [0, 4, 0]);
+        assert_eq!(bench.entries(), [entry(3, 1), entry(4, 1), entry(6, 1)]);
+    }
 }
 
 /// l | DA | m has exactly eight octets here, so one block and no padding.
@@ -121,7 +129,7 @@ fn the_expected_number_stays_when_a_session_closes() {
     let format_error = message(kind::DELETE_ALL_KEYS, 300, &[0]);
     let end = message(kind::END_OF_UPDATE, 300, &[]);
     for closing in [wrong_sequence, wrong_length, format_error, end] {
-        let mut bench = Bench::new(&[]);
+        let mut bench = Bench::new(EDITION_1, &[]);
         bench.receive(&closing);
         assert_eq!(bench.session.state, CLOSED);
         assert_eq!(bench.session.expected, 300);

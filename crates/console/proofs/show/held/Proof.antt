@@ -5,6 +5,9 @@ use borrow.Author.Needs.{needs}
 use Rattle.console.proofs.show.held.Statement.{statement}
 use Rattle.console.proofs.show.held.Tie as tie
 
+edition-requires : tie.Need-edition-requires
+edition-requires c κs = search needs
+
 is-held-requires : tie.Need-is-held-requires
 is-held-requires c κs = search needs
 
@@ -27,6 +30,7 @@ pub held-spec : {M : Type 1} → statement M
 held-spec =
     tie.close
     (tie.spec
+    edition-requires
     is-held-requires
     records-requires
     slice-aggregate-line

@@ -1,14 +1,15 @@
 -- `console::show::peers` is safe and ends.
 -- Assumes nothing.
 use mathlib.Core.Path.{_≡_}
-use Prim.Native.Nat.{_+_, _-_, _≤_}
+use Prim.Native.Nat.{_+_, _*_, _-_, _≤_, _<_}
+use Rattle.octets.specs.Bytes.{get16}
 use lib.ListN.{length}
 use native.Mathlib.Omega.{arith}
 use Rattle.console.proofs.show.peers.Statement.{statement}
 use Rattle.console.proofs.show.peers.Tie as tie
 
 abbrev Inv-loop : tie.InvT-loop
-Inv-loop s first count k₀ t5 k = (k ≤ count) × (first + count ≤ 256) × (length s ≡ 3852)
+Inv-loop s first count k₀ t5 k = (k ≤ count) × (first + count < 65536) × (12 ≤ length s) × (get16 s 8 + 4 * (first + count) ≤ length s)
 
 abbrev μ-loop : tie.MeasureT-loop
 μ-loop s first count k₀ t5 k = count - k

@@ -3,8 +3,11 @@
 use mathlib.Core.Bool.{true}
 use mathlib.Core.Path.{_≡_, ap, _∙_}
 use Prim.Native.Nat.{ℕ, _+_, _-_, _≤_}
-use Rattle.store.specs.Layout.{edition1}
-use Rattle.store.specs.Store.{sound, keyCount}
+use lib.ListN.{length}
+use Rattle.store.specs.Layout.{editionOf}
+use Rattle.store.specs.Store.{keyCount}
+use Rattle.runs.specs.Alike.{isSound}
+use Rattle.records.proofs.Theorems.{held-in}
 use Rattle.store.proofs.SoundLaws.{sound-says}
 use Rattle.store.proofs.SearchLaws.{room}
 use Rattle.records.specs.declared.Record.{Record}
@@ -13,7 +16,7 @@ use Rattle.console.proofs.show.records.Statement.{statement}
 use Rattle.console.proofs.show.records.Tie as tie
 
 abbrev Inv-loop : tie.InvT-loop
-Inv-loop s n i₀ i = (i ≤ n) × (n ≡ keyCount s) × (sound edition1 s ≡ true)
+Inv-loop s n i₀ i = (i ≤ n) × (n ≡ keyCount s) × (isSound s ≡ true)
 
 abbrev μ-loop : tie.MeasureT-loop
 μ-loop s n i₀ i = n - i
@@ -21,13 +24,15 @@ abbrev μ-loop : tie.MeasureT-loop
 number-at-requires : tie.Need-number-at-requires Inv-loop μ-loop
 number-at-requires c κs =
     let start = c .before in
-    let w = sound-says edition1 (start .args .s .now) (start .pre) in
+    let p = held-in (editionOf (length (start .args .s .now))) (start .args .s .now) (start .pre) in
+    let w = sound-says (p .0) (start .args .s .now) (p .1) in
     omega arith
 
 number-at-requires-2 : tie.Need-number-at-requires-2 Inv-loop μ-loop
 number-at-requires-2 c κs =
     let start = c .before .before in
-    let w = sound-says edition1 (start .args .s .now) (start .pre) in
+    let p = held-in (editionOf (length (start .args .s .now))) (start .args .s .now) (start .pre) in
+    let w = sound-says (p .0) (start .args .s .now) (p .1) in
     omega arith
 
 counts-requires : tie.Need-counts-requires Inv-loop μ-loop
@@ -43,8 +48,9 @@ record-at-requires c κs =
     let loop = c .before in
     let number = loop .before .before .before in
     let start = number .before .before in
-    let w = sound-says edition1 (start .args .s .now) (start .pre) in
-    (omega arith, w .size)
+    let p = held-in (editionOf (length (start .args .s .now))) (start .args .s .now) (start .pre) in
+    let w = sound-says (p .0) (start .args .s .now) (p .1) in
+    (omega arith, omega (arith, w .size, w .keys-fit, loop .loop .inv .1))
 
 add-record : tie.Need-add-record Inv-loop μ-loop
 add-record c = omega arith
@@ -60,11 +66,12 @@ peers-requires c κs =
     let known = number .before in
     let start = known .before in
     let s = start .args .s .now in
-    let w = sound-says edition1 s (start .pre) in
-    let r = room edition1 s (loop .loop .i) (λ j. known .shared-slice-known .given j .fits) (start .pre) (omega arith) in
+    let p = held-in (editionOf (length s)) s (start .pre) in
+    let w = sound-says (p .0) s (p .1) in
+    let r = room (p .0) s (loop .loop .i) (λ j. known .shared-slice-known .given j .fits) (p .1) (omega arith) in
     let f = ap (λ (x : Record). x .first) (read .record-at .ensures) in
     let n = ap (λ (x : Record). x .count) (read .record-at .ensures) in
-    (omega arith, w .size)
+    (omega (arith, f, n, r .inside, r .framed .total-fits, r .framed .peers-fit), omega (arith, w .size), omega (arith, f, n, r .inside, w .size, w .peers-at, r .framed .peers-fit))
 
 add-i : tie.Need-add-i Inv-loop μ-loop
 add-i c = omega arith

@@ -2,10 +2,11 @@
 -- Assumes nothing.
 use mathlib.Core.Path.{_≡_, sym, ap, _∙_}
 use Prim.Native.Nat.{ℕ, _+_, _-_, _*_}
-use lib.ListN.{take, drop}
+use lib.ListN.{length, take, drop}
 use borrow.Author.Tests.{lt-leb, le-leb}
 use Rattle.octets.specs.Bytes.{part}
-use Rattle.store.specs.Layout.{edition1}
+use Rattle.store.specs.Layout.{editionOf}
+use Rattle.records.proofs.Theorems.{held-in}
 use Rattle.store.specs.Store.{keyCount}
 use Rattle.store.proofs.SoundLaws.{sound-says}
 use borrow.Author.Needs.{needs}
@@ -24,7 +25,8 @@ returns c =
 number-at-requires : tie.Need-number-at-requires
 number-at-requires c κs =
     let start = c .before .before in
-    let w = sound-says edition1 (start .args .s .now) (start .pre) in
+    let p = held-in (editionOf (length (start .args .s .now))) (start .args .s .now) (start .pre) in
+    let w = sound-says (p .0) (start .args .s .now) (p .1) in
     omega arith
 
 slice-aggregate-result-2 : tie.Need-slice-aggregate-result-2
@@ -61,7 +63,8 @@ part-result-end : tie.Need-part-result-end
 part-result-end c =
     let number = c .before in
     let start = number .before .before .before in
-    let w = sound-says edition1 (start .args .s .now) (start .pre) in
+    let p = held-in (editionOf (length (start .args .s .now))) (start .args .s .now) (start .pre) in
+    let w = sound-says (p .0) (start .args .s .now) (p .1) in
     omega arith
 
 returns-3 : tie.Need-returns-3

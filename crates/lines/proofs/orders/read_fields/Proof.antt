@@ -51,11 +51,17 @@ with-bytes-requires-2 c κs = search needs
 enum-told-8 : tie.Need-enum-told-8
 enum-told-8 c = search needs
 
+edition-requires : tie.Need-edition-requires
+edition-requires c κs = search needs
+
 enum-told-9 : tie.Need-enum-told-9
 enum-told-9 c = search needs
 
 enum-told-10 : tie.Need-enum-told-10
 enum-told-10 c = search needs
+
+enum-told-11 : tie.Need-enum-told-11
+enum-told-11 c = search needs
 
 returns : tie.Need-returns
 unfolding fieldsOrder
@@ -87,7 +93,7 @@ returns-7 c = simp (c .before .enum-told7 .given .1, sym (c .with-bytes2 .ensure
 
 returns-8 : tie.Need-returns-8
 unfolding fieldsOrder
-returns-8 c = simp (c .enum-told8 .given .1)
+returns-8 c = simp (c .before .enum-told8 .given .1, sym (c .edition .ensures))
 
 returns-9 : tie.Need-returns-9
 unfolding fieldsOrder
@@ -96,6 +102,10 @@ returns-9 c = simp (c .enum-told9 .given .1)
 returns-10 : tie.Need-returns-10
 unfolding fieldsOrder
 returns-10 c = simp (c .enum-told10 .given .1)
+
+returns-11 : tie.Need-returns-11
+unfolding fieldsOrder
+returns-11 c = simp (c .enum-told11 .given .1)
 
 pub read-fields-spec : {M : Type 1} → statement M
 read-fields-spec =
@@ -116,8 +126,10 @@ read-fields-spec =
     enum-told-7
     with-bytes-requires-2
     enum-told-8
+    edition-requires
     enum-told-9
     enum-told-10
+    enum-told-11
     returns
     returns-2
     returns-3
@@ -127,4 +139,5 @@ read-fields-spec =
     returns-7
     returns-8
     returns-9
-    returns-10)
+    returns-10
+    returns-11)
