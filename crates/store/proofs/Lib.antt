@@ -1,5 +1,6 @@
 pub mod EncodingLaws
 pub mod SoundLaws
+pub mod SlotLaws
 pub mod DecodeLaws
 pub mod EncodeLaws
 pub mod WellFormedLaws

@@ -4,3 +4,4 @@ pub mod Search
 pub mod Request
 pub mod WellFormed
 pub mod Claims
+pub mod Slots

@@ -2,6 +2,7 @@
 pub mod editions;
 pub mod field;
 pub mod search;
+pub mod slots;
 pub mod sound;
 
 use editions::edition_of;

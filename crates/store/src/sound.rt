@@ -5,6 +5,12 @@ use super::Limits;
 use super::PEER;
 use super::RECORD;
 use super::field::number_at;
+use super::slots::SLOTS;
+use super::slots::fingerprint_of;
+use super::slots::hash_at;
+use super::slots::is_suspect;
+use super::slots::marked;
+use super::slots::slot_of;
 use octets::get32_at;
 use octets::is_clear;
 ghost use mathlib.Core.Path.{_≡_};
@@ -96,17 +102,25 @@ fn new_key(s: &[u8], i: usize) -> bool
     true
 }
 
-// Whether no two records share issuer and serial.
+// Whether no two records share issuer and serial. Only a record that its slot makes suspect is compared with those before it.
 fn unique_ok(s: &[u8]) -> bool
     requires { ⌜ recordAt (keyCount (now s)) ≤ length (now s) ⌝ }
     ensures { λ r. ⌜ r ≡ uniqueOk (now (s .entry)) ⌝ }
 {
     let n = number_at(s, 2);
+    let mut marks = [0u8; SLOTS];
     let mut i = 0;
     while i < n {
-        if !new_key(s, i) {
-            return false;
+        let hash = hash_at(s, i);
+        let k = slot_of(hash);
+        let fingerprint = fingerprint_of(hash);
+        let mark = marks[k];
+        if is_suspect(mark, fingerprint) {
+            if !new_key(s, i) {
+                return false;
+            }
         }
+        marks[k] = marked(mark, fingerprint);
         i += 1;
     }
     true
