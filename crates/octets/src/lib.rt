@@ -139,17 +139,18 @@ pub fn open_gap(s: &mut [u8], i: usize, gap: usize, n: usize)
     }
 }
 
-// Whether the n bytes from index i are zero.
+// Whether the n bytes from index i are zero. All are looked at: without a way out of the loop many are compared at once.
 pub fn is_clear(s: &[u8], i: usize, n: usize) -> bool
     requires { ⌜ i + n ≤ length (now s) ⌝ }
     ensures { λ r. ⌜ r ≡ allZero (part (now (s .entry)) i n) ⌝ }
 {
+    let mut clear = true;
     let mut k: usize = 0;
     while k < n {
         if s[i + k] != 0 {
-            return false;
+            clear = false;
         }
         k += 1;
     }
-    true
+    clear
 }

@@ -21,7 +21,7 @@ use Rattle.requests.specs.declared.Addition.{Addition}
 use Rattle.requests.specs.Edit.{withCounts}
 use Rattle.requests.specs.Worked.{newEntry}
 use Rattle.requests.proofs.RecordLaws.{header-counts}
-use Rattle.requests.proofs.DeleteLaws.{zeros-join}
+use Rattle.requests.proofs.AroundLaws.{zeros-join}
 
 -- ---- the lists, regrouped before the record and before its peers
 

@@ -7,7 +7,7 @@ use mathlib.Core.List.{List, [], _∷_, _++_}
 use Prim.Native.Nat.{ℕ, suc, _+_, _*_, _-_, _≤_, _<_}
 use native.Mathlib.Nat.{zero-add}
 use native.Mathlib.Omega.{arith}
-use lib.ListN.{length, replicate, length-append}
+use lib.ListN.{length, replicate, length-append, replicate-append-replicate}
 use Rattle.octets.specs.Words.{words}
 use Rattle.octets.proofs.PartLaws.{part-length}
 use Rattle.octets.proofs.WordLaws.{length-numbers, words-append}
@@ -113,6 +113,9 @@ around L s i n m f k b t h en em ef ek =
         small = omega arith;
       };
     }
+
+pub zeros-join : (a b c : ℕ) → a + b ≡ c → replicate {A = ℕ} a 0 ++ replicate b 0 ≡ replicate c 0
+zeros-join a b c e = replicate-append-replicate {A = ℕ} a b 0 ∙ ap (λ (x : ℕ). replicate x 0) e
 
 -- the encoding, by its parts
 pub encode-parts : (L : Limits) (pre : List Entry) (e : Entry) (post : List Entry) (i n m f k : ℕ) → Parts L pre e post i n m f k

@@ -17,8 +17,7 @@ use Rattle.store.specs.declared.Limits.{Limits}
 use Rattle.store.proofs.EncodingLaws.{front-length, keyRecord-length, keyRecords-length}
 use Rattle.requests.specs.Edit.{withCounts, renumbered, replaced}
 use Rattle.requests.proofs.RecordLaws.{share-written, renumbered-records, header-counts}
-use Rattle.requests.proofs.AroundLaws.{Parts, Around, encode-parts, updateAt-middle}
-use Rattle.requests.proofs.DeleteLaws.{zeros-join}
+use Rattle.requests.proofs.AroundLaws.{Parts, Around, zeros-join, encode-parts, updateAt-middle}
 use Rattle.requests.proofs.ValidityLaws.{group-middle}
 
 -- ---- a part in the middle, replaced
@@ -131,7 +130,7 @@ module _ (L : Limits) (pre : List Entry) (e : Entry) (post : List Entry) (i n m 
   abbrev T : List ℕ
   T = Z0 ++ ((F ++ (words xs ++ G)) ++ replicate (4 * (P - (m - k + c))) 0)
 
-  new-parts : Parts L pre (withPeers xs e) post i n (m - k + c) f c
+  pub new-parts : Parts L pre (withPeers xs e) post i n (m - k + c) f c
   new-parts =
       let peers : m ≡ f + (k + length (peersOf post)) = p .peers in
       record {

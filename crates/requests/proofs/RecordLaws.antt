@@ -145,3 +145,7 @@ renumbered-records (e ∷ es) a c i q p ea k h =
 pub header-counts : (L : Limits) (n m n' m' : ℕ) (t : List ℕ) → withCounts (header L n m ++ t) n' m' ≡ header L n' m' ++ t
 unfolding withCounts header splice
 header-counts L n m n' m' t = refl
+
+pub header-keys : (L : Limits) (n m n' : ℕ) (t : List ℕ) → splice (header L n m ++ t) 2 (be16 n') ≡ header L n' m ++ t
+unfolding header splice
+header-keys L n m n' t = refl

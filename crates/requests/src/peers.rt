@@ -35,7 +35,7 @@ fn replace(s: &mut [u8], i: usize, old: usize, new: usize, tail: usize, m: &[u8]
 }
 
 // Replaces the peers of record i of a sound store by the new peers that stand in m from index at.
-fn replace_peers(s: &mut [u8], lim: Limits, i: usize, m: &[u8], at: usize, new: usize)
+pub fn replace_peers(s: &mut [u8], lim: Limits, i: usize, m: &[u8], at: usize, new: usize)
     requires { ⌜ sound lim (now s) ≡ true ⌝ }
     requires { ⌜ i < keyCount (now s) ⌝ }
     requires { ⌜ (peerCount (now s) - count (now s) i + new ≤ lim .peers) × (at + 4 * new ≤ length (now m)) ⌝ }

@@ -1,19 +1,23 @@
--- `octets::is_clear` meets its contract. The loop's invariant: what is left decides.
+-- `octets::is_clear` meets its contract. The loop's invariant: what was seen and what is left decide together.
 -- Assumes nothing.
-use mathlib.Core.Path.{_≡_, sym, _∙_}
-use Prim.Native.Nat.{_+_, _-_, _≤_}
+use mathlib.Core.Path.{_≡_, refl, sym, ap, _∙_}
+use mathlib.Core.Bool.{Bool, false, _&&_}
+use mathlib.Core.List.{List}
+use mathlib.Core.Logic.{⊎-elim}
+use Prim.Native.Nat.{ℕ, _+_, _-_, _≤_}
 use native.Mathlib.Nat.{add-zero, sub-zero}
-use Rattle.octets.specs.Bytes.{part, allZero}
-use Rattle.octets.proofs.PartLaws.{allZero-turn, allZero-fails, allZero-end}
 use native.Mathlib.Omega.{arith}
+use Rattle.octets.specs.Bytes.{part, allZero}
+use Rattle.octets.proofs.BoolLaws.{and-false-right, and-true-right}
+use Rattle.octets.proofs.PartLaws.{allZero-turn, allZero-fails, allZero-end}
 use Rattle.octets.proofs.is_clear.Statement.{statement}
 use Rattle.octets.proofs.is_clear.Tie as tie
 
 abbrev Inv-loop : tie.InvT-loop
-Inv-loop s i n k₀ k = (k ≤ n) × (allZero (part s i n) ≡ allZero (part s (i + k) (n - k)))
+Inv-loop s i n clear₀ k₀ clear k = (k ≤ n) × (allZero (part s i n) ≡ clear && allZero (part s (i + k) (n - k)))
 
 abbrev μ-loop : tie.MeasureT-loop
-μ-loop s i n k₀ k = n - k
+μ-loop s i n clear₀ k₀ clear k = n - k
 
 loop-holds : tie.Need-loop-holds Inv-loop μ-loop
 loop-holds c = (omega arith, rw (add-zero, sub-zero))
@@ -23,12 +27,6 @@ add-if1 c = omega arith
 
 shared-slice-read-if1 : tie.Need-shared-slice-read-if1 Inv-loop μ-loop
 shared-slice-read-if1 c = omega arith
-
-returns : tie.Need-returns Inv-loop μ-loop
-returns c =
-    let l = c .before .before .before in
-    let a = l .before .args in
-    sym (l .loop .inv .1 ∙ allZero-fails (a .s .now) (a .i) (a .n) (l .loop .k) (omega arith) (l .before .pre) (c .if1 .taken))
 
 add-k : tie.Need-add-k Inv-loop μ-loop
 add-k c = omega arith
@@ -40,13 +38,22 @@ loop-again : tie.Need-loop-again Inv-loop μ-loop
 loop-again c =
     let l = c .before .before .before in
     let a = l .before .args in
-    (omega arith, l .loop .inv .1 ∙ allZero-turn (a .s .now) (a .i) (a .n) (l .loop .k) (omega arith) (l .before .pre) (c .if1 .left))
+    let s = a .s .now in
+    let k = l .loop .k in
+    let more : List ℕ = part s (a .i + (k + 1)) (a .n - (k + 1)) in (
+      omega arith,
+      l .loop .inv .1
+          ∙ ⊎-elim
+          (λ w. ap (λ (b : Bool). l .loop .clear && b) (allZero-fails s (a .i) (a .n) k (omega arith) (l .before .pre) (w .0 .taken)) ∙ and-false-right (l .loop .clear) false refl ∙ sym (ap (λ (b : Bool). b && allZero more) (w .1)))
+          (λ w. ap (λ (b : Bool). l .loop .clear && b) (allZero-turn s (a .i) (a .n) k (omega arith) (l .before .pre) (w .0 .left)) ∙ sym (ap (λ (b : Bool). b && allZero more) (w .1)))
+          (c .if1 .came),
+    )
 
-returns-2 : tie.Need-returns-2 Inv-loop μ-loop
-returns-2 c =
+returns : tie.Need-returns Inv-loop μ-loop
+returns c =
     let l = c .before in
     let a = l .before .args in
-    sym (l .loop .inv .1 ∙ allZero-end (a .s .now) (a .i) (a .n) (l .loop .k) (omega arith))
+    sym (l .loop .inv .1 ∙ and-true-right (l .loop .clear) (allZero (part (a .s .now) (a .i + l .loop .k) (a .n - l .loop .k))) (allZero-end (a .s .now) (a .i) (a .n) (l .loop .k) (omega arith)))
 
 pub is-clear-spec : {M : Type 1} → statement M
 is-clear-spec =
@@ -57,8 +64,7 @@ is-clear-spec =
     loop-holds
     add-if1
     shared-slice-read-if1
-    returns
     add-k
     loop-less
     loop-again
-    returns-2)
+    returns)
