@@ -29,27 +29,107 @@ int32_t reference_check(const uint8_t *unit, size_t unit_len, const uint8_t *key
 
 /* ---- inputs, and what a contender makes */
 
-static struct worst worst[WORST_COUNT];
-static const struct worst *now; /* the message of a row */
-static uint8_t unsound[KMAC_STORE_LEN], key[KMAC_KEY_LEN], data[KMAC_DATA_MAX], unit[KMAC_UNIT_MAX];
+/* The messages to a store of an edition, and stores of which only the search is timed. */
+struct inputs {
+    struct worst worst[WORST_COUNT];
+    struct worst random, issuers, slot; /* the full store, its keys under other names */
+    struct worst unsound;               /* by its very last byte, the last that is looked at */
+};
+
+static struct inputs inputs_1, inputs_2;
+static const struct worst *now; /* the message or the store of a row */
+static uint8_t key[KMAC_KEY_LEN], data[KMAC_DATA_MAX], unit[KMAC_UNIT_MAX];
 static const uint8_t destination[KMAC_DESTINATION_LEN] = {0xe6, 0xa5, 0x4b};
 
 static struct made {
     int32_t answer;
     uint8_t out[KMAC_OUT_LEN];
-    uint8_t store[KMAC_STORE_LEN];
+    uint8_t store[KMAC_STORE_2_LEN];
 } made;
+
+/* ---- names of keys. A full store of worst.c has one issuer, and its serials are consecutive. */
+
+enum { ISSUER = 0x05445566 };
+
+struct name {
+    uint32_t issuer;
+    uint32_t serial;
+};
+
+/* The slot that the soundness test has for a name (crates/store/src/slots.rt). */
+static unsigned slot_of(struct name name)
+{
+    uint64_t hash = name.issuer * UINT64_C(1779033703) + name.serial * UINT64_C(1540483477);
+    return (unsigned)(hash / 4194304 % 1024);
+}
+
+/* Random serials: xorshift, which gives none twice. */
+static struct name next_random(struct name name)
+{
+    name.serial ^= name.serial << 13;
+    name.serial ^= name.serial >> 17;
+    name.serial ^= name.serial << 5;
+    return name;
+}
+
+/* Two issuers in turn, each with consecutive serials. */
+static struct name next_of_issuers(struct name name)
+{
+    name.issuer ^= 1;
+    name.serial += name.issuer % 2;
+    return name;
+}
+
+/* All in one slot, so that the soundness test compares each with all before it. */
+static struct name next_in_slot(struct name name)
+{
+    do
+        name.serial++;
+    while (slot_of(name) != 0);
+    return name;
+}
+
+static void put32(uint8_t *to, uint32_t value)
+{
+    for (int i = 3; i >= 0; i--, value >>= 8)
+        to[i] = (uint8_t)value;
+}
+
+/* The full store with other names in its records, and else as it was. */
+static void rename_keys(struct worst *w, const struct worst *full, struct name (*next)(struct name))
+{
+    const struct edition *edition = full->edition;
+    struct name name = {ISSUER, 1};
+    *w = *full;
+    for (unsigned place = 1; place <= edition->keys; place++) {
+        uint8_t *record = w->store + KMAC_KEY_AT(place) - 8;
+        name = next(name);
+        put32(record, name.issuer);
+        put32(record + 4, name.serial);
+    }
+    if (kmac_find(w->store, edition->store_len, worst_peer(edition), worst_moment()) != (int32_t)edition->keys)
+        abort();
+}
+
+static void prepare_stores(const struct edition *edition, struct inputs *inputs)
+{
+    const struct worst *full = &inputs->worst[WORST_DELETES];
+    worst_make(edition, inputs->worst);
+    rename_keys(&inputs->random, full, next_random);
+    rename_keys(&inputs->issuers, full, next_of_issuers);
+    rename_keys(&inputs->slot, full, next_in_slot);
+    inputs->unsound = inputs->worst[WORST_ONE_ADD];
+    inputs->unsound.store[edition->store_len - 1] = 1;
+}
 
 static void prepare(void)
 {
-    worst_make(worst);
+    prepare_stores(&edition_1, &inputs_1);
+    prepare_stores(&edition_2, &inputs_2);
     worst_kmac(1, key);
     for (size_t i = 0; i < sizeof data; i++)
         data[i] = (uint8_t)(7 * i);
     kmac_build(key, sizeof key, destination, 1, data, sizeof data, unit, sizeof unit);
-    /* Unsound by its very last byte, the last that is looked at. */
-    memcpy(unsound, worst[WORST_ONE_ADD].store, sizeof unsound);
-    unsound[sizeof unsound - 1] = 1;
 }
 
 /* ---- contenders: data units */
@@ -94,27 +174,33 @@ static uint32_t number_at(const uint8_t *bytes, size_t length)
 static void receive_kmac(void)
 {
     const struct message *m = &now->message;
+    size_t store_len = now->edition->store_len;
     memcpy(session, now->session, sizeof session);
-    memcpy(made.store, now->store, sizeof made.store);
-    made.answer = kmac_receive(session, m->bytes, m->length, made.store, sizeof made.store, made.out, sizeof made.out);
+    memcpy(made.store, now->store, store_len);
+    made.answer = kmac_receive(session, m->bytes, m->length, made.store, store_len, made.out, sizeof made.out);
 }
 
 /* Identities and numbers of the open session, as the session init and the message itself have them. */
 static void receive_reference(void)
 {
     const struct message *m = &now->message;
-    memcpy(made.store, now->store, sizeof made.store);
+    size_t store_len = now->edition->store_len;
+    memcpy(made.store, now->store, store_len);
     made.answer = reference_receive(number_at(m->bytes + 5, 4), number_at(m->bytes + 9, 4), now->next,
-                                    (uint16_t)number_at(m->bytes + 17, 2), m->bytes, m->length, made.store,
-                                    sizeof made.store, made.out, sizeof made.out);
+                                    (uint16_t)number_at(m->bytes + 17, 2), m->bytes, m->length, made.store, store_len,
+                                    made.out, sizeof made.out);
 }
 
-static void copy_store(void) { memcpy(made.store, now->store, sizeof made.store); }
+static void copy_store(void) { memcpy(made.store, now->store, now->edition->store_len); }
 
-static void find_kmac(void) { made.answer = kmac_find(now->store, KMAC_STORE_LEN, worst_peer(), worst_moment()); }
-static void find_reference(void) { made.answer = reference_find(now->store, KMAC_STORE_LEN, worst_peer(), worst_moment()); }
-static void sound_kmac(void) { made.answer = kmac_find(unsound, KMAC_STORE_LEN, worst_peer(), worst_moment()); }
-static void sound_reference(void) { made.answer = reference_find(unsound, KMAC_STORE_LEN, worst_peer(), worst_moment()); }
+static void find_kmac(void)
+{
+    made.answer = kmac_find(now->store, now->edition->store_len, worst_peer(now->edition), worst_moment());
+}
+static void find_reference(void)
+{
+    made.answer = reference_find(now->store, now->edition->store_len, worst_peer(now->edition), worst_moment());
+}
 
 static void self_test(void) { made.answer = kmac_self_test(); }
 
@@ -127,31 +213,52 @@ static const char *const contenders[CONTENDERS] = {"libkmac", "OpenSSL", "nettle
 struct row {
     const char *name; /* of the message, where there is none */
     void (*run[CONTENDERS])(void);
-    int message;
+    const struct worst *with;
 };
 
 static const struct row rows[] = {
-    {"check a unit of 1,032 bytes", {check_kmac, check_openssl, check_nettle, check_reference}, WORST_DELETES},
-    {"build a unit of 1,032 bytes", {build_kmac, build_openssl, build_nettle, build_reference}, WORST_DELETES},
-    {"session keys", {keys_kmac, keys_openssl, keys_nettle, keys_reference}, WORST_DELETES},
-    {"DES, key set-up and one block", {block_kmac, block_openssl, block_nettle, NULL}, WORST_DELETES},
-    {"self-test at power-on", {self_test, NULL, NULL, NULL}, WORST_DELETES},
-    {NULL, {receive_kmac, NULL, NULL, receive_reference}, WORST_ONE_ADD},
-    {NULL, {receive_kmac, NULL, NULL, receive_reference}, WORST_ADDS},
-    {NULL, {receive_kmac, NULL, NULL, receive_reference}, WORST_ADDS_FULL},
-    {NULL, {receive_kmac, NULL, NULL, receive_reference}, WORST_DELETES},
-    {NULL, {receive_kmac, NULL, NULL, receive_reference}, WORST_VALIDITIES},
-    {NULL, {receive_kmac, NULL, NULL, receive_reference}, WORST_ENTITIES},
-    {NULL, {receive_kmac, NULL, NULL, receive_reference}, WORST_ENTITIES_MOVED},
-    {NULL, {receive_kmac, NULL, NULL, receive_reference}, WORST_DELETE_ALL},
-    {"find, last peer of 64 keys", {find_kmac, NULL, NULL, find_reference}, WORST_DELETES},
-    {"soundness: find, last byte wrong", {sound_kmac, NULL, NULL, sound_reference}, WORST_DELETES},
-    {"copy of the store, in each receive", {copy_store, NULL, NULL, NULL}, WORST_DELETES},
+    {"check a unit of 1,032 bytes", {check_kmac, check_openssl, check_nettle, check_reference}, NULL},
+    {"build a unit of 1,032 bytes", {build_kmac, build_openssl, build_nettle, build_reference}, NULL},
+    {"session keys", {keys_kmac, keys_openssl, keys_nettle, keys_reference}, NULL},
+    {"DES, key set-up and one block", {block_kmac, block_openssl, block_nettle, NULL}, NULL},
+    {"self-test at power-on", {self_test, NULL, NULL, NULL}, NULL},
+    {NULL, {receive_kmac, NULL, NULL, receive_reference}, &inputs_1.worst[WORST_ONE_ADD]},
+    {NULL, {receive_kmac, NULL, NULL, receive_reference}, &inputs_1.worst[WORST_ADDS]},
+    {NULL, {receive_kmac, NULL, NULL, receive_reference}, &inputs_1.worst[WORST_ADDS_FULL]},
+    {NULL, {receive_kmac, NULL, NULL, receive_reference}, &inputs_1.worst[WORST_DELETES]},
+    {NULL, {receive_kmac, NULL, NULL, receive_reference}, &inputs_1.worst[WORST_VALIDITIES]},
+    {NULL, {receive_kmac, NULL, NULL, receive_reference}, &inputs_1.worst[WORST_ENTITIES]},
+    {NULL, {receive_kmac, NULL, NULL, receive_reference}, &inputs_1.worst[WORST_ENTITIES_MOVED]},
+    {NULL, {receive_kmac, NULL, NULL, receive_reference}, &inputs_1.worst[WORST_DELETE_ALL]},
+    {"find, last peer of 64 keys", {find_kmac, NULL, NULL, find_reference}, &inputs_1.worst[WORST_DELETES]},
+    {"soundness: find, last byte wrong", {find_kmac, NULL, NULL, find_reference}, &inputs_1.unsound},
+    {"copy of the store, in each receive", {copy_store, NULL, NULL, NULL}, &inputs_1.worst[WORST_DELETES]},
+    {"find, no key held", {find_kmac, NULL, NULL, find_reference}, &inputs_1.worst[WORST_ADDS]},
+    {"find, last peer of 64 keys, random serials", {find_kmac, NULL, NULL, find_reference}, &inputs_1.random},
+    {"find, last peer of 64 keys, two issuers", {find_kmac, NULL, NULL, find_reference}, &inputs_1.issuers},
+    {"find, last peer of 64 keys, all in one slot", {find_kmac, NULL, NULL, find_reference}, &inputs_1.slot},
+    {NULL, {receive_kmac, NULL, NULL, receive_reference}, &inputs_1.worst[WORST_DELETES_IN_VAIN]},
+    {NULL, {receive_kmac, NULL, NULL, receive_reference}, &inputs_2.worst[WORST_ONE_ADD]},
+    {NULL, {receive_kmac, NULL, NULL, receive_reference}, &inputs_2.worst[WORST_ADDS]},
+    {NULL, {receive_kmac, NULL, NULL, receive_reference}, &inputs_2.worst[WORST_ADDS_FULL]},
+    {NULL, {receive_kmac, NULL, NULL, receive_reference}, &inputs_2.worst[WORST_DELETES]},
+    {NULL, {receive_kmac, NULL, NULL, receive_reference}, &inputs_2.worst[WORST_DELETES_IN_VAIN]},
+    {NULL, {receive_kmac, NULL, NULL, receive_reference}, &inputs_2.worst[WORST_VALIDITIES]},
+    {NULL, {receive_kmac, NULL, NULL, receive_reference}, &inputs_2.worst[WORST_ENTITIES]},
+    {NULL, {receive_kmac, NULL, NULL, receive_reference}, &inputs_2.worst[WORST_ENTITIES_MOVED]},
+    {NULL, {receive_kmac, NULL, NULL, receive_reference}, &inputs_2.worst[WORST_DELETE_ALL]},
+    {"find, no key held, edition 2", {find_kmac, NULL, NULL, find_reference}, &inputs_2.worst[WORST_ADDS]},
+    {"find, last peer of 500 keys", {find_kmac, NULL, NULL, find_reference}, &inputs_2.worst[WORST_DELETES]},
+    {"find, last peer of 500 keys, random serials", {find_kmac, NULL, NULL, find_reference}, &inputs_2.random},
+    {"find, last peer of 500 keys, two issuers", {find_kmac, NULL, NULL, find_reference}, &inputs_2.issuers},
+    {"find, last peer of 500 keys, all in one slot", {find_kmac, NULL, NULL, find_reference}, &inputs_2.slot},
+    {"soundness: find, last byte wrong, edition 2", {find_kmac, NULL, NULL, find_reference}, &inputs_2.unsound},
+    {"copy of the store, edition 2", {copy_store, NULL, NULL, NULL}, &inputs_2.worst[WORST_DELETES]},
 };
 
 static const char *name_of(const struct row *row)
 {
-    return row->name ? row->name : worst[row->message].name;
+    return row->name ? row->name : row->with->name;
 }
 
 /* Every contender of a row must make what the library makes. */
@@ -263,7 +370,7 @@ int main(void)
     printf("|---|---|---|---|---|---|---|---|---|\n");
     for (size_t i = 0; i < sizeof rows / sizeof rows[0]; i++) {
         double median[CONTENDERS] = {0};
-        now = &worst[rows[i].message];
+        now = rows[i].with;
         compare(&rows[i]);
         double widest = measure(&rows[i], median);
         printf("| %s |", name_of(&rows[i]));

@@ -14,11 +14,13 @@
 #endif
 
 HELD_AT_COMPILE_TIME(KMAC_STORE_LEN == 12 + 44 * KMAC_STORE_KEYS + 4 * KMAC_STORE_PEERS, "the store's parts");
+HELD_AT_COMPILE_TIME(KMAC_STORE_2_LEN == 12 + 44 * KMAC_STORE_2_KEYS + 4 * KMAC_STORE_2_PEERS, "the parts of edition 2");
 HELD_AT_COMPILE_TIME(KMAC_UNIT_MAX == 1 + KMAC_DATA_MAX + KMAC_MAC_LEN, "the unit's parts");
 HELD_AT_COMPILE_TIME(KMAC_UNIT_MIN == 1 + KMAC_MAC_LEN, "the unit's parts without user data");
 HELD_AT_COMPILE_TIME(KMAC_OUT_LEN >= KMAC_UNIT_MAX, "a unit fits into an output buffer");
 HELD_AT_COMPILE_TIME(KMAC_KEY_AT(1) == 20, "the first KMAC");
 HELD_AT_COMPILE_TIME(KMAC_KEY_AT(KMAC_STORE_KEYS) + KMAC_KEY_LEN <= KMAC_STORE_LEN, "the last KMAC");
+HELD_AT_COMPILE_TIME(KMAC_KEY_AT(KMAC_STORE_2_KEYS) + KMAC_KEY_LEN <= KMAC_STORE_2_LEN, "the last KMAC of edition 2");
 HELD_AT_COMPILE_TIME(KMAC_H13_KEY_LENGTH == -13, "a refusal is the negative of its number");
 
 static int32_t (*const begin)(uint32_t, uint32_t, uint16_t, uint8_t *, uint8_t *, size_t) = kmac_begin;
@@ -34,29 +36,57 @@ static void (*const decipher)(const uint8_t *, const uint8_t *, uint8_t *) = kma
 static int32_t (*const empty_store)(uint8_t *, size_t) = kmac_empty_store;
 static int32_t (*const self_test)(void) = kmac_self_test;
 
-static uint8_t store[KMAC_STORE_LEN], session[KMAC_SESSION_LEN], out[KMAC_OUT_LEN];
+static uint8_t store[KMAC_STORE_LEN], store_2[KMAC_STORE_2_LEN + 1], session[KMAC_SESSION_LEN], out[KMAC_OUT_LEN];
 static const uint8_t bytes[KMAC_KEY_LEN] = {0x01, 0x02, 0x04, 0x07, 0x08, 0x0b, 0x0d, 0x0e};
 
-/* The store is all zero bytes at first: of the right length and unsound. */
-static int store_answers(void)
+/* No edition has this length: every call that takes a store refuses it. */
+static int length_answers(size_t length)
 {
-    return find(store, 0, 1, 1) == KMAC_H1_STORE_LENGTH && find(store, sizeof store, 1, 1) == KMAC_H12_STORE_UNSOUND &&
-           empty_store(store, 0) == KMAC_H1_STORE_LENGTH && empty_store(store, sizeof store) == 0 &&
-           find(store, sizeof store, 1, 1) == KMAC_H11_NO_KEY;
+    return find(store_2, length, 1, 1) == KMAC_H1_STORE_LENGTH && empty_store(store_2, length) == KMAC_H1_STORE_LENGTH &&
+           receive(session, bytes, 0, store_2, length, out, 0) == KMAC_H1_STORE_LENGTH;
+}
+
+static int lengths_answer(void)
+{
+    return length_answers(0) && length_answers(KMAC_STORE_LEN - 1) && length_answers(KMAC_STORE_LEN + 1) &&
+           length_answers(KMAC_STORE_2_LEN - 1) && length_answers(KMAC_STORE_2_LEN + 1);
+}
+
+/* The stores are all zero bytes at first: of the right length and unsound. */
+static int store_answers(uint8_t *lent, size_t length)
+{
+    return find(lent, length, 1, 1) == KMAC_H12_STORE_UNSOUND && empty_store(lent, length) == 0 &&
+           find(lent, length, 1, 1) == KMAC_H11_NO_KEY;
+}
+
+/* Both stores are empty: with the header of the other edition neither is sound, and either is made empty again. */
+static int header_answers(void)
+{
+    uint8_t header[12];
+    memcpy(header, store, sizeof header);
+    memcpy(store, store_2, sizeof header);
+    memcpy(store_2, header, sizeof header);
+    return store_answers(store, sizeof store) && store_answers(store_2, KMAC_STORE_2_LEN);
 }
 
 /* The session is all zero bytes at first: closed. A message of 20 bytes that is no session init closes a waiting one. */
-static int session_answers(void)
+static int session_answers(uint8_t *lent, size_t length)
 {
-    return receive(session, bytes, 0, store, 0, out, 0) == KMAC_H1_STORE_LENGTH &&
-           receive(session, bytes, 0, store, sizeof store, out, 0) == KMAC_H2_OUTPUT_LENGTH &&
-           receive(session, bytes, 0, store, sizeof store, out, sizeof out) == KMAC_H3_SESSION_CLOSED &&
+    return receive(session, bytes, 0, lent, length, out, 0) == KMAC_H2_OUTPUT_LENGTH &&
+           receive(session, bytes, 0, lent, length, out, sizeof out) == KMAC_H3_SESSION_CLOSED &&
            begin(1, 1, 0, session, out, 0) == KMAC_H2_OUTPUT_LENGTH &&
            begin(1, 1, 0, session, out, sizeof out) == KMAC_H6_SAME_IDENTITY && session[0] == 0 &&
            begin(1, 2, 0, session, out, sizeof out) == 23 &&
-           receive(session, bytes, 19, store, sizeof store, out, sizeof out) == KMAC_H4_MESSAGE_SHORT &&
-           receive(session, bytes, 20, store, sizeof store, out, sizeof out) == KMAC_H5_NO_SESSION_INIT &&
-           receive(session, bytes, 20, store, sizeof store, out, sizeof out) == KMAC_H3_SESSION_CLOSED;
+           receive(session, bytes, 19, lent, length, out, sizeof out) == KMAC_H4_MESSAGE_SHORT &&
+           receive(session, bytes, 20, lent, length, out, sizeof out) == KMAC_H5_NO_SESSION_INIT &&
+           receive(session, bytes, 20, lent, length, out, sizeof out) == KMAC_H3_SESSION_CLOSED;
+}
+
+/* Once for each edition, and what is no edition. */
+static int stores_answer(void)
+{
+    return lengths_answer() && store_answers(store, sizeof store) && store_answers(store_2, KMAC_STORE_2_LEN) &&
+           header_answers() && session_answers(store, sizeof store) && session_answers(store_2, KMAC_STORE_2_LEN);
 }
 
 static int unit_answers(void)
@@ -89,7 +119,7 @@ static int des_answers(void)
 
 int main(void)
 {
-    if (!store_answers() || !session_answers() || !unit_answers() || !des_answers() || self_test() != 0) {
+    if (!stores_answer() || !unit_answers() || !des_answers() || self_test() != 0) {
         puts("a call does not answer as kmac.h says");
         return 1;
     }

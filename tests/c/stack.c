@@ -15,10 +15,8 @@ static _Alignas(16) uint8_t stack[STACK_LEN];
 static ucontext_t outside, inside;
 static const uint8_t *top; /* the caller's stack pointer as it makes the call */
 
-static struct worst worst[WORST_COUNT];
-static struct worst now; /* the message on its way */
+static struct worst now; /* the message on its way, or the store that is lent */
 static uint8_t unit[KMAC_UNIT_MAX], out[KMAC_UNIT_MAX], data[KMAC_DATA_MAX], key[KMAC_KEY_LEN], keys[KMAC_KEY_LEN];
-static uint8_t unsound[KMAC_STORE_LEN];
 static const uint8_t destination[KMAC_DESTINATION_LEN] = {0xe6, 0xa5, 0x4b};
 static int32_t answer;
 
@@ -45,21 +43,15 @@ static void call_begin(void)
 static void call_receive(void)
 {
     enter();
-    answer = kmac_receive(now.session, now.message.bytes, now.message.length, now.store, sizeof now.store, out, sizeof out);
+    answer = kmac_receive(now.session, now.message.bytes, now.message.length, now.store, now.edition->store_len, out,
+                          sizeof out);
     leave();
 }
 
 static void call_find(void)
 {
     enter();
-    answer = kmac_find(now.store, sizeof now.store, worst_peer(), worst_moment());
-    leave();
-}
-
-static void call_find_unsound(void)
-{
-    enter();
-    answer = kmac_find(unsound, sizeof unsound, worst_peer(), worst_moment());
+    answer = kmac_find(now.store, now.edition->store_len, worst_peer(now.edition), worst_moment());
     leave();
 }
 
@@ -103,7 +95,7 @@ static void call_decipher(void)
 static void call_empty_store(void)
 {
     enter();
-    answer = kmac_empty_store(now.store, sizeof now.store);
+    answer = kmac_empty_store(now.store, now.edition->store_len);
     leave();
 }
 
@@ -147,42 +139,54 @@ static void measure(const char *name, void (*call)(void), const struct worst *wi
         if (depth > deepest)
             deepest = depth;
     }
-    printf("%-46s %5zu of %5zu bytes\n", name, deepest, limit);
+    printf("%-58s %5zu of %5zu bytes\n", name, deepest, limit);
     if (deepest > limit || limit > KMAC_STACK_MAX) {
         printf("%s: deeper than kmac.h says\n", name);
         exit(1);
     }
 }
 
-static void prepare(void)
+static void prepare_unit(void)
 {
-    worst_make(worst);
     worst_kmac(1, key);
     for (size_t i = 0; i < sizeof data; i++)
         data[i] = (uint8_t)(7 * i);
     kmac_build(key, sizeof key, destination, 1, data, sizeof data, unit, sizeof unit);
-    memcpy(unsound, worst[WORST_ONE_ADD].store, sizeof unsound);
-    unsound[sizeof unsound - 1] = 1;
 }
 
-int main(void)
+/* The calls that take a store, over stores of an edition. */
+static void measure_stores(const struct edition *edition)
 {
+    static struct worst worst[WORST_COUNT], unsound;
     const struct worst *full = &worst[WORST_DELETES];
-    prepare();
-    measure("kmac_begin", call_begin, full, 23, KMAC_STACK_BEGIN);
+    worst_make(edition, worst);
+    unsound = worst[WORST_ONE_ADD];
+    unsound.store[edition->store_len - 1] = 1;
     for (int i = 0; i < WORST_COUNT; i++) {
         char name[80];
         snprintf(name, sizeof name, "kmac_receive: %s", worst[i].name);
         measure(name, call_receive, &worst[i], worst[i].answer, KMAC_STACK_RECEIVE);
     }
-    measure("kmac_find", call_find, full, KMAC_STORE_KEYS, KMAC_STACK_FIND);
-    measure("kmac_find: unsound", call_find_unsound, full, KMAC_H12_STORE_UNSOUND, KMAC_STACK_FIND);
-    measure("kmac_session_keys", call_session_keys, full, 0, KMAC_STACK_SESSION_KEYS);
-    measure("kmac_build: 1,023 bytes", call_build, full, KMAC_UNIT_MAX, KMAC_STACK_BUILD);
-    measure("kmac_check: 1,032 bytes", call_check, full, KMAC_DATA_MAX, KMAC_STACK_CHECK);
-    measure("kmac_des_encipher", call_encipher, full, 0, KMAC_STACK_DES_ENCIPHER);
-    measure("kmac_des_decipher", call_decipher, full, 0, KMAC_STACK_DES_DECIPHER);
+    measure("kmac_find", call_find, full, (int32_t)edition->keys, KMAC_STACK_FIND);
+    measure("kmac_find: unsound", call_find, &unsound, KMAC_H12_STORE_UNSOUND, KMAC_STACK_FIND);
     measure("kmac_empty_store", call_empty_store, full, 0, KMAC_STACK_EMPTY_STORE);
-    measure("kmac_self_test", call_self_test, full, 0, KMAC_STACK_SELF_TEST);
+}
+
+int main(void)
+{
+    static const struct worst none;
+    prepare_unit();
+    puts("stores of edition 1");
+    measure_stores(&edition_1);
+    puts("stores of edition 2");
+    measure_stores(&edition_2);
+    puts("no store");
+    measure("kmac_begin", call_begin, &none, 23, KMAC_STACK_BEGIN);
+    measure("kmac_session_keys", call_session_keys, &none, 0, KMAC_STACK_SESSION_KEYS);
+    measure("kmac_build: 1,023 bytes", call_build, &none, KMAC_UNIT_MAX, KMAC_STACK_BUILD);
+    measure("kmac_check: 1,032 bytes", call_check, &none, KMAC_DATA_MAX, KMAC_STACK_CHECK);
+    measure("kmac_des_encipher", call_encipher, &none, 0, KMAC_STACK_DES_ENCIPHER);
+    measure("kmac_des_decipher", call_decipher, &none, 0, KMAC_STACK_DES_DECIPHER);
+    measure("kmac_self_test", call_self_test, &none, 0, KMAC_STACK_SELF_TEST);
     return 0;
 }
