@@ -3,19 +3,21 @@
 use mathlib.Core.Path.{_≡_, refl, sym, ap, _∙_}
 use mathlib.Core.Bool.{Bool, true, false}
 use mathlib.Core.List.{List, _++_}
+use mathlib.Core.Logic.{⊎-elim}
 use Prim.Native.Nat.{ℕ, _+_, _-_, _≤_, _<_}
 use native.Mathlib.Omega.{arith}
 use lib.Dec.{eqb}
 use lib.ListN.{length, take, replicate, length-replicate}
 use lib.Seq.{length-take-le, take-at}
-use borrow.Author.Tests.{lt-leb, le-leb, lt-ltb, le-ltb, eqb-true}
+use borrow.Author.Tests.{lt-leb, le-leb, lt-ltb, le-ltb, ne-eqb, eq-eqb}
 use Rattle.octets.specs.Bytes.{part, splice}
 use Rattle.octets.proofs.SpliceLaws.{splice-front}
 use Rattle.store.specs.Search.{emptied}
 use Rattle.store.specs.declared.Limits.{Limits}
 use Rattle.store.specs.declared.Edition.{Edition}
 use Rattle.store.specs.declared.Edition.the-variants.{Known, Unknown}
-use Rattle.store.specs.Layout.{edition1, edition2, pickEdition, editionIn, editionOf}
+use Rattle.store.specs.Layout.{total, editionIn, editionOf}
+use Rattle.store.proofs.SearchLaws.{editionOf-says, known-edition}
 use Rattle.lines.specs.Digits.{bytesOf, Puts}
 use Rattle.lines.specs.Words.{word}
 use Rattle.console.specs.Bench.{bytesIn, sizeOf, storeOf, emptyOf, takenIn, storeIn, filledBy, lineBy}
@@ -56,14 +58,12 @@ emptied-held large n s new rest h l e k =
 
 -- the editions' lengths
 pub edition-length : (n : ℕ) (L : Limits) → editionOf n ≡ Known L → (n ≤ 38012) × (sizeOf (eqb n 38012) ≡ n)
-unfolding editionOf editionIn
-edition-length n L e = go (eqb n 3852) (eqb n 38012) refl refl e
-  where
-    go : (a b : Bool) → eqb n 3852 ≡ a → eqb n 38012 ≡ b → pickEdition a (Known edition1) (pickEdition b (Known edition2) Unknown) ≡ Known L → (n ≤ 38012) × (sizeOf b ≡ n)
-    go true true p q h = let z : _≡_ {A = ℕ} 3852 38012 = sym (eqb-true n 3852 p) ∙ eqb-true n 38012 q in absurd (omega arith)
-    go true false p q h = let z : n ≡ 3852 = eqb-true n 3852 p in (omega arith, sym z)
-    go false true p q h = let z : n ≡ 38012 = eqb-true n 38012 q in (omega arith, sym z)
-    go false false p q h = let z : _≡_ {A = ℕ} 0 1 = cc in absurd (omega arith)
+edition-length n L e =
+    let size : n ≡ total L = editionOf-says n L e .1 in
+    ⊎-elim
+    (λ h. let z : n ≡ 3852 = size ∙ sym (ap total h) in (omega arith, ap sizeOf (ne-eqb n 38012 (omega arith)) ∙ sym z))
+    (λ h. let z : n ≡ 38012 = size ∙ sym (ap total h) in (omega arith, ap sizeOf (eq-eqb n 38012 z) ∙ sym z))
+    (known-edition n L e)
 
 module _ (text w d : List ℕ) (n : ℕ) (e : w ≡ word text 1) (p : Puts (take (length {A = ℕ} (replicate 38050 0)) (bytesOf w)) (replicate 38050 0) d n) where
   pub store-kept : (old : List ℕ) → editionOf n ≡ Unknown → old ≡ storeIn text old

@@ -30,10 +30,6 @@ and-right false b p = clash false p refl
 pub and-false-left : (a b : Bool) → a ≡ false → (a && b) ≡ false
 and-false-left a b p = rw p
 
-pub and-true-right : (a b : Bool) → b ≡ true → a && b ≡ a
-and-true-right true b h = h
-and-true-right false b h = refl
-
 pub and-false-right : (a b : Bool) → b ≡ false → (a && b) ≡ false
 and-false-right true b p = p
 and-false-right false b p = refl

@@ -13,6 +13,7 @@ use borrow.Author.Tests.{eqb-true, ltb-true}
 use Rattle.octets.specs.Bytes.{be16, be32, part, splice, allZero, same, allBelow}
 use Rattle.octets.specs.Words.{numbers, words}
 use Rattle.octets.proofs.BoolLaws.{clash, and-left, and-right}
+use Rattle.store.specs.declared.Limits.{Limits}
 use Rattle.store.specs.Layout.{edition1, edition2, editionIn, editionOf}
 use Rattle.store.specs.Store.{peersOf, header, keyRecord, keyRecords, encode, entriesFrom, entries, allHold, headerOk, countsOk, sumBefore, sumsOk, newKey, uniqueOk, allOdd, parityOk, unusedOk, sound}
 use Rattle.store.specs.Search.{placeWhere}
@@ -111,11 +112,11 @@ test-stores s s' h w w' =
 
 -- ---- two runs: a KMAC of the bytes k is held, one more is added, and both are deleted
 
-abbrev holds : ℕ → List ℕ
-holds k = encode edition1 (record { issuer = 3; serial = 4; kmac = replicate 24 k; start = 10; end = 20; peers = 8 ∷ [] } ∷ [])
+abbrev holds : Limits → ℕ → List ℕ
+holds L k = encode L (record { issuer = 3; serial = 4; kmac = replicate 24 k; start = 10; end = 20; peers = 8 ∷ [] } ∷ [])
 
-abbrev world : ℕ → World
-world k = record { session = expecting 5; store = holds k }
+abbrev world : Limits → ℕ → World
+world L k = record { session = expecting 5; store = holds L k }
 
 abbrev adding : ℕ → List ℕ
 adding k = from2to1 5 0 (be16 1 ++ kStruct 3 5 1 (replicate 24 k) (8 ∷ []))
@@ -132,9 +133,9 @@ added k = brings (adding k) out ∷ []
 abbrev deleted : ℕ → List Call
 deleted k = brings (adding k) out ∷ brings deleting out ∷ []
 
-alike-holds : AlikeStores (holds 1) (holds 7)
+alike-holds : AlikeStores (holds edition1 1) (holds edition1 7)
 unfolding alikeTest byteTest inStoreKey inRecordKey editionOf editionIn peersOf encode header keyRecord keyRecords words sound allHold headerOk countsOk sumsOk sumBefore uniqueOk newKey parityOk allOdd unusedOk allBelow allZero part ones
-alike-holds = test-stores (holds 1) (holds 7) refl refl refl
+alike-holds = test-stores (holds edition1 1) (holds edition1 7) refl refl refl
 
 alike-adding : AlikeMessages (adding 1) (adding 7)
 unfolding alikeTest byteTest inMessageKey inKeysFrom wellFormedAdd fieldsFrom fieldsOk sizeAt words ones
@@ -145,7 +146,7 @@ unfolding alikeTest byteTest inMessageKey wellFormedAdd ones
 alike-deleting = test-messages deleting deleting refl
 
 -- the stores and the messages really differ
-stores-differ : holds 1 ≡ holds 7 → ⊥
+stores-differ : holds edition1 1 ≡ holds edition1 7 → ⊥
 unfolding encode header keyRecord keyRecords
 stores-differ q = let z : _≡_ {A = ℕ} 1 7 = ap (λ (s : List ℕ). getD s 20 0) q in omega arith
 
@@ -153,12 +154,12 @@ messages-differ : adding 1 ≡ adding 7 → ⊥
 unfolding words
 messages-differ q = let z : _≡_ {A = ℕ} 1 7 = ap (λ (s : List ℕ). getD s 35 0) q in omega arith
 
-alike-added : Alike (added 1) (added 7) (world 1) (world 7)
-alike-added = secrecy .runs (added 1) (added 7) (world 1) (world 7) refl alike-holds (alike-message (adding 1) (adding 7) out alike-adding no-calls)
+alike-added : Alike (added 1) (added 7) (world edition1 1) (world edition1 7)
+alike-added = secrecy .runs (added 1) (added 7) (world edition1 1) (world edition1 7) refl alike-holds (alike-message (adding 1) (adding 7) out alike-adding no-calls)
 
 -- and runs of the code that meet the contracts: the one message, answered with one RESULT
 abbrev outcome : ℕ → Outcome
-outcome k = receive (expecting 5) (adding k) (holds k) out
+outcome k = receive (expecting 5) (adding k) (holds edition1 k) out
 
 answers : (outcome 1 .answer ≡ reply 24) × (outcome 7 .answer ≡ reply 24)
 unfolding receive receiveIn editionOf editionIn inState verdict firstFailed obey respond kindOf bodyOk fieldsFrom fieldsOk sizeAt requests requestsFrom requestAt work peersOf encode header keyRecord keyRecords words sound allHold headerOk countsOk sumsOk sumBefore uniqueOk newKey parityOk allOdd unusedOk allBelow allZero part ones
@@ -170,44 +171,45 @@ handed k = by-message (Reply 24) (outcome k .output) ∷ []
 abbrev left : ℕ → World
 left k = record { session = outcome k .session; store = outcome k .store }
 
-code-added : (k : ℕ) → outcome k .answer ≡ reply 24 → CodeRun (added k) (world k) (handed k) (left k)
+code-added : (k : ℕ) → outcome k .answer ≡ reply 24 → CodeRun (added k) (world edition1 k) (handed k) (left k)
 code-added k q = code-message (record { answer-is = sym q; session-is = refl; store-is = refl; output-is = refl }) code-ends
 
-alike-code : AlikeCode (added 1) (added 7) (world 1) (world 7) (handed 1) (handed 7) (left 1) (left 7)
+alike-code : AlikeCode (added 1) (added 7) (world edition1 1) (world edition1 7) (handed 1) (handed 7) (left 1) (left 7)
 alike-code =
-    secrecy-of-calls .runs (added 1) (added 7) (world 1) (world 7) (left 1) (left 7) (handed 1) (handed 7) refl alike-holds
+    secrecy-of-calls .runs (added 1) (added 7) (world edition1 1) (world edition1 7) (left 1) (left 7) (handed 1) (handed 7) refl alike-holds
     (alike-message (adding 1) (adding 7) out alike-adding no-calls) (code-added 1 (answers .0)) (code-added 7 (answers .1))
 
 -- both keys are unlike once the one is added, and none is left at the end
-tallies : (tallyOf (added 1) (added 7) (world 1) (world 7) ≡ record { issuer = 3; serial = 4; unlike = true } ∷ record { issuer = 3; serial = 5; unlike = true } ∷ [])
-    × (tallyOf (deleted 1) (deleted 7) (world 1) (world 7) ≡ [])
+abbrev Tallied : Limits → Type 0
+Tallied L =
+    (tallyOf (added 1) (added 7) (world L 1) (world L 7) ≡ record { issuer = 3; serial = 4; unlike = true } ∷ record { issuer = 3; serial = 5; unlike = true } ∷ [])
+    × (tallyOf (deleted 1) (deleted 7) (world L 1) (world L 7) ≡ [])
+
+tallies : Tallied edition1
 unfolding tags tallyFrom allSeen seen next allTagged tagged without same receive receiveIn editionOf editionIn inState verdict firstFailed obey respond kindOf bodyOk fieldsFrom fieldsOk sizeAt requests requestsFrom requestAt work after result firstReason done placeWhere peersOf encode header keyRecord keyRecords words numbers entries entriesFrom sound allHold headerOk countsOk sumsOk sumBefore uniqueOk newKey parityOk allOdd unusedOk allBelow allZero part splice ones
 tallies = (refl, refl)
 
 -- with both deleted, the stores are equal byte for byte
-no-trace-left : final (deleted 1) (world 1) .store ≡ final (deleted 7) (world 7) .store
-no-trace-left =
-    secrecy .runs (deleted 1) (deleted 7) (world 1) (world 7) refl alike-holds
-    (alike-message (adding 1) (adding 7) out alike-adding (alike-message deleting deleting out alike-deleting no-calls)) .no-trace (ap noneUnlike (tallies .1))
+abbrev Untraced : Limits → Type 0
+Untraced L = final (deleted 1) (world L 1) .store ≡ final (deleted 7) (world L 7) .store
 
--- ---- edition 2
+untraced : (L : Limits) → AlikeStores (holds L 1) (holds L 7) → Tallied L → Untraced L
+untraced L a t =
+    secrecy .runs (deleted 1) (deleted 7) (world L 1) (world L 7) refl a
+    (alike-message (adding 1) (adding 7) out alike-adding (alike-message deleting deleting out alike-deleting no-calls)) .no-trace (ap noneUnlike (t .1))
 
-abbrev holds-2 : ℕ → List ℕ
-holds-2 k = encode edition2 (record { issuer = 3; serial = 4; kmac = replicate 24 k; start = 10; end = 20; peers = 8 ∷ [] } ∷ [])
+no-trace-left : Untraced edition1
+no-trace-left = untraced edition1 alike-holds tallies
 
-alike-holds-2 : AlikeStores (holds-2 1) (holds-2 7)
+-- ---- the same in edition 2
+
+alike-holds-2 : AlikeStores (holds edition2 1) (holds edition2 7)
 unfolding alikeTest byteTest inStoreKey inRecordKey editionOf editionIn peersOf encode header keyRecord keyRecords words sound allHold headerOk countsOk sumsOk sumBefore uniqueOk newKey parityOk allOdd unusedOk allBelow allZero part ones
-alike-holds-2 = test-stores (holds-2 1) (holds-2 7) refl refl refl
+alike-holds-2 = test-stores (holds edition2 1) (holds edition2 7) refl refl refl
 
-abbrev world-2 : ℕ → World
-world-2 k = record { session = expecting 5; store = holds-2 k }
-
-tallies-2 : (tallyOf (added 1) (added 7) (world-2 1) (world-2 7) ≡ record { issuer = 3; serial = 4; unlike = true } ∷ record { issuer = 3; serial = 5; unlike = true } ∷ [])
-    × (tallyOf (deleted 1) (deleted 7) (world-2 1) (world-2 7) ≡ [])
+tallies-2 : Tallied edition2
 unfolding tags tallyFrom allSeen seen next allTagged tagged without same receive receiveIn editionOf editionIn inState verdict firstFailed obey respond kindOf bodyOk fieldsFrom fieldsOk sizeAt requests requestsFrom requestAt work after result firstReason done placeWhere peersOf encode header keyRecord keyRecords words numbers entries entriesFrom sound allHold headerOk countsOk sumsOk sumBefore uniqueOk newKey parityOk allOdd unusedOk allBelow allZero part splice ones
 tallies-2 = (refl, refl)
 
-no-trace-left-2 : final (deleted 1) (world-2 1) .store ≡ final (deleted 7) (world-2 7) .store
-no-trace-left-2 =
-    secrecy .runs (deleted 1) (deleted 7) (world-2 1) (world-2 7) refl alike-holds-2
-    (alike-message (adding 1) (adding 7) out alike-adding (alike-message deleting deleting out alike-deleting no-calls)) .no-trace (ap noneUnlike (tallies-2 .1))
+no-trace-left-2 : Untraced edition2
+no-trace-left-2 = untraced edition2 alike-holds-2 tallies-2

@@ -125,6 +125,8 @@ larger =
     -- 4,000 used: replacing 10 by 10 gives 0, by 11 gives 255
     ∷ (saysOn (encode edition2 (holding 4 1 2 (replicate 3990 8) ∷ holding 5 1 2 (replicate 10 8) ∷ [])) 5 (replaces (replicate 10 9)) is (0 ∷ 0 ∷ 1 ∷ 0 ∷ []))
     ∷ (saysOn (encode edition2 (holding 4 1 2 (replicate 3990 8) ∷ holding 5 1 2 (replicate 10 8) ∷ [])) 5 (replaces (replicate 11 9)) is (0 ∷ 0 ∷ 1 ∷ 255 ∷ []))
+    -- a search
+    ∷ (placeOf (find (encode edition2 (holding 4 10 20 (8 ∷ []) ∷ [])) 8 10) is (1 ∷ []))
     -- the header of edition 1 in 38,012 bytes, and of edition 2 in 3,852: 6 and H12
     ∷ (saysOn (headed edition1 edition2) 5 (adds (8 ∷ [])) is (6 ∷ 0 ∷ 0 ∷ []))
     ∷ (saysOn (headed edition2 edition1) 5 (adds (8 ∷ [])) is (6 ∷ 0 ∷ 0 ∷ []))

@@ -9,6 +9,7 @@ use lib.Count.{ones, onesIn}
 use Rattle.octets.specs.Bytes.{part, allBelow, allZero}
 use Rattle.octets.specs.Words.{numbers, words, elem}
 use Rattle.refusal.specs.House.{Answer, house, gives}
+use Rattle.store.specs.declared.Limits.{Limits}
 use Rattle.store.specs.Layout.{edition1, edition2, editionOf, editionIn}
 use Rattle.store.specs.Store.{Entry, peersOf, header, keyRecord, keyRecords, encode, entries, entriesFrom, sound, allHold, headerOk, countsOk, sumBefore, sumsOk, newKey, uniqueOk, allOdd, parityOk, unusedOk}
 use Rattle.store.specs.Search.{placeWhere, find, findIn}
@@ -38,29 +39,32 @@ header-bytes : header edition1 2 3 ≡ 0 ∷ 1 ∷ 0 ∷ 2 ∷ 0 ∷ 12 ∷ 0 �
 unfolding header
 header-bytes = refl
 
-sound-two : sound edition1 (encode edition1 (one ∷ entry 8 7 (19 ∷ []) ∷ [])) ≡ true
-unfolding one encode header keyRecord keyRecords peersOf words sound allHold headerOk countsOk sumBefore sumsOk newKey uniqueOk allOdd parityOk unusedOk allBelow allZero part ones onesIn
-sound-two = refl
+abbrev two : Limits → List ℕ
+two L = encode L (one ∷ entry 8 7 (19 ∷ []) ∷ [])
 
-back : entries edition1 (encode edition1 (one ∷ entry 8 7 (19 ∷ []) ∷ [])) ≡ one ∷ entry 8 7 (19 ∷ []) ∷ []
+sound-two : (sound edition1 (two edition1) ≡ true) × (sound edition2 (two edition2) ≡ true)
+unfolding one encode header keyRecord keyRecords peersOf words sound allHold headerOk countsOk sumBefore sumsOk newKey uniqueOk allOdd parityOk unusedOk allBelow allZero part ones onesIn
+sound-two = (refl, refl)
+
+back : (entries edition1 (two edition1) ≡ one ∷ entry 8 7 (19 ∷ []) ∷ []) × (entries edition2 (two edition2) ≡ one ∷ entry 8 7 (19 ∷ []) ∷ [])
 unfolding one encode header keyRecord keyRecords peersOf words entries entriesFrom numbers part
-back = refl
+back = (refl, refl)
 
 unsound-twice : sound edition1 (encode edition1 (one ∷ one ∷ [])) ≡ false
 unfolding one encode header keyRecord keyRecords peersOf words sound allHold headerOk countsOk sumBefore sumsOk newKey uniqueOk allOdd parityOk unusedOk allBelow allZero part ones onesIn
 unsound-twice = refl
 
 -- what a list of requests answers to the own identity 3
-abbrev answers : List Entry → List Request → List ℕ
-answers es rs = work edition1 3 rs es .results
+abbrev answers : Limits → List Entry → List Request → List ℕ
+answers L es rs = work L 3 rs es .results
 
 abbrev answered : List (List ℕ)
 answered =
-    answers [] (delete 66051 7 ∷ [])
-    ∷ answers [] (add 3 one ∷ add 3 one ∷ [])
-    ∷ answers (entry 7 1 (replicate 253 5) ∷ []) (add 3 (entry 8 1 (replicate 4 6)) ∷ add 3 (entry 8 1 (replicate 3 6)) ∷ [])
-    ∷ answers (entry 7 1 (replicate 246 5) ∷ entry 8 1 (replicate 10 6) ∷ []) (entities 66051 8 (replicate 10 7) ∷ entities 66051 8 (replicate 11 7) ∷ [])
-    ∷ answers [] (add 3 (entry 7 0 (1 ∷ [])) ∷ add 4 (entry 7 0 (1 ∷ [])) ∷ [])
+    answers edition1 [] (delete 66051 7 ∷ [])
+    ∷ answers edition1 [] (add 3 one ∷ add 3 one ∷ [])
+    ∷ answers edition1 (entry 7 1 (replicate 253 5) ∷ []) (add 3 (entry 8 1 (replicate 4 6)) ∷ add 3 (entry 8 1 (replicate 3 6)) ∷ [])
+    ∷ answers edition1 (entry 7 1 (replicate 246 5) ∷ entry 8 1 (replicate 10 6) ∷ []) (entities 66051 8 (replicate 10 7) ∷ entities 66051 8 (replicate 11 7) ∷ [])
+    ∷ answers edition1 [] (add 3 (entry 7 0 (1 ∷ [])) ∷ add 4 (entry 7 0 (1 ∷ [])) ∷ [])
     ∷ []
 
 -- empty store, delete: 1; one key twice: 0 then 3; 253 peers used and 4 or 3 more: 255, 0; 256 used and 10 replaced by 10 or 11: 0, 255;
@@ -84,23 +88,6 @@ empty-bytes-2 : encode edition2 [] ≡ 0 ∷ 2 ∷ 0 ∷ 0 ∷ 0 ∷ 12 ∷ 0 �
 unfolding encode header keyRecords peersOf words
 empty-bytes-2 = refl
 
-sound-two-2 : sound edition2 (encode edition2 (one ∷ entry 8 7 (19 ∷ []) ∷ [])) ≡ true
-unfolding one encode header keyRecord keyRecords peersOf words sound allHold headerOk countsOk sumBefore sumsOk newKey uniqueOk allOdd parityOk unusedOk allBelow allZero part ones onesIn
-sound-two-2 = refl
-
-back-2 : entries edition2 (encode edition2 (one ∷ entry 8 7 (19 ∷ []) ∷ [])) ≡ one ∷ entry 8 7 (19 ∷ []) ∷ []
-unfolding one encode header keyRecord keyRecords peersOf words entries entriesFrom numbers part
-back-2 = refl
-
--- 3,997 peers used and 4 or 3 more: 255, 0; 4,000 used and 10 replaced by 10 or 11: 0, 255
-requests-answered-2 :
-    (work edition2 3 (add 3 (entry 8 1 (replicate 4 6)) ∷ add 3 (entry 8 1 (replicate 3 6)) ∷ []) (entry 7 1 (replicate 3997 5) ∷ []) .results)
-    ∷ (work edition2 3 (entities 66051 8 (replicate 10 7) ∷ entities 66051 8 (replicate 11 7) ∷ []) (entry 7 1 (replicate 3990 5) ∷ entry 8 1 (replicate 10 6) ∷ []) .results)
-    ∷ []
-    ≡ (255 ∷ 0 ∷ []) ∷ (0 ∷ 255 ∷ []) ∷ []
-unfolding one work result firstReason after done updateAt placeWhere peersOf allOdd allBelow ones onesIn
-requests-answered-2 = refl
-
 -- n keys with the serials n down to 1 and no peers
 abbrev keys : ℕ → List Entry
 keys zero = []
@@ -108,22 +95,11 @@ keys (suc n) = entry (suc n) 1 [] ∷ keys n
 
 -- 64 keys held in edition 1, 500 in edition 2, and one more added: 2; one fewer held: 0
 keys-full :
-    (work edition1 3 (add 3 (entry 65 1 (1 ∷ [])) ∷ []) (keys 64) .results)
-    ∷ (work edition1 3 (add 3 (entry 65 1 (1 ∷ [])) ∷ []) (keys 63) .results)
-    ∷ (work edition2 3 (add 3 (entry 501 1 (1 ∷ [])) ∷ []) (keys 500) .results)
-    ∷ (work edition2 3 (add 3 (entry 501 1 (1 ∷ [])) ∷ []) (keys 499) .results)
+    answers edition1 (keys 64) (add 3 (entry 65 1 (1 ∷ [])) ∷ [])
+    ∷ answers edition1 (keys 63) (add 3 (entry 65 1 (1 ∷ [])) ∷ [])
+    ∷ answers edition2 (keys 500) (add 3 (entry 501 1 (1 ∷ [])) ∷ [])
+    ∷ answers edition2 (keys 499) (add 3 (entry 501 1 (1 ∷ [])) ∷ [])
     ∷ []
     ≡ (2 ∷ []) ∷ (0 ∷ []) ∷ (2 ∷ []) ∷ (0 ∷ []) ∷ []
 unfolding work result firstReason after done updateAt placeWhere peersOf allOdd allBelow ones onesIn
 keys-full = refl
-
--- T = start fits; a header of edition 1 in 38,012 bytes, or of edition 2 in 3,852: H12; a length of neither edition: H1
-searched-2 :
-    find (encode edition2 (one ∷ [])) 17 5
-    ∷ find (encode edition1 (one ∷ []) ++ replicate 34160 0) 17 5
-    ∷ find (header edition2 0 0 ++ replicate 3840 0) 17 5
-    ∷ find (encode edition2 (one ∷ []) ++ (0 ∷ [])) 17 5
-    ∷ []
-    ≡ gives 1 ∷ house 12 ∷ house 12 ∷ house 1 ∷ []
-unfolding one find findIn editionOf editionIn placeWhere elem entries entriesFrom numbers encode header keyRecord keyRecords peersOf words sound allHold headerOk countsOk sumBefore sumsOk newKey uniqueOk allOdd parityOk unusedOk allBelow allZero part ones onesIn
-searched-2 = refl

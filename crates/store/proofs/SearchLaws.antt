@@ -3,6 +3,7 @@
 use mathlib.Core.Path.{_≡_, refl, sym, ap, _∙_, subst}
 use mathlib.Core.Bool.{Bool, true, false}
 use mathlib.Core.List.{List, [], _∷_}
+use mathlib.Core.Logic.{_⊎_, inl, inr}
 use Prim.Native.Nat.{ℕ, suc, _+_, _*_, _-_, _≤_, _<_}
 use native.Mathlib.Nat.{add-zero, zero-add, sub-zero}
 use native.Mathlib.Numerals.{add-one}
@@ -13,7 +14,7 @@ use borrow.Author.Tests.{eqb-true, lt-ltb, le-ltb, ltb-true}
 use Rattle.octets.specs.Bytes.{Bytes, part}
 use Rattle.refusal.specs.House.{Answer, house, gives, asks}
 use Rattle.refusal.proofs.Laws.{not-both}
-use Rattle.store.specs.Layout.{total, Bounded, editions, pickEdition, editionIn, editionOf}
+use Rattle.store.specs.Layout.{total, Bounded, edition1, edition2, editions, pickEdition, editionIn, editionOf}
 use Rattle.store.specs.Store.{Entry, entries, entriesFrom, entryAt, keyCount, first, count, peerCount, sumBefore, sound}
 use Rattle.store.specs.Search.{pickNumber, placeWhere, chosen, placed, findIn, find, keyOf, key}
 use Rattle.store.specs.declared.Limits.{Limits}
@@ -42,6 +43,16 @@ editionIn-says (M ∷ Ls) n L a e = go (editionIn-says Ls n L (a .1)) (eqb n (to
 pub editionOf-says : (n : ℕ) (L : Limits) → editionOf n ≡ Known L → Bounded L × (n ≡ total L)
 unfolding editionOf AllBounded
 editionOf-says n L e = editionIn-says editions n L (record { edition-fits = omega arith; total-fits = omega arith }, (record { edition-fits = omega arith; total-fits = omega arith }, tt)) e
+
+-- and is one of the two
+pub known-edition : (n : ℕ) (L : Limits) → editionOf n ≡ Known L → (edition1 ≡ L) ⊎ (edition2 ≡ L)
+unfolding editionOf editionIn
+known-edition n L e = go (eqb n (total edition1)) (eqb n (total edition2)) e
+  where
+    go : (a b : Bool) → pickEdition a (Known edition1) (pickEdition b (Known edition2) Unknown) ≡ Known L → (edition1 ≡ L) ⊎ (edition2 ≡ L)
+    go true b q = inl cc
+    go false true q = inr cc
+    go false false q = let z : _≡_ {A = ℕ} 0 1 = cc in absurd (omega arith)
 
 -- ---- the lengths and counts of a sound store, and of its record i
 

@@ -1,7 +1,7 @@
 -- A record that its slot does not make suspect has an issuer and serial of its own.
 -- Assumes nothing.
 use mathlib.Core.Path.{_≡_, refl, sym, ap, ap₂, _∙_}
-use mathlib.Core.Bool.{Bool, true, false, not, _&&_, _||_, cond}
+use mathlib.Core.Bool.{Bool, true, false, not, _&&_, _||_, cond, or-true}
 use mathlib.Core.List.{List}
 use Prim.Native.Nat.{ℕ, _+_, _*_, _<_}
 use native.Mathlib.Omega.{arith}
@@ -16,10 +16,6 @@ use Rattle.store.specs.Store.{sameKey, newKey}
 use Rattle.store.specs.Slots.{hashOf, slotOf, fingerprintOf, suspect, markedBy}
 
 -- ---- one slot
-
-or-true : (b : Bool) → b || true ≡ true
-or-true true = refl
-or-true false = refl
 
 -- what a slot makes suspect stays so with one more record
 mark-kept : (mark f g : ℕ) → (g ≡ 0 → ⊥) → suspect mark g ≡ true → suspect (markedBy mark f) g ≡ true

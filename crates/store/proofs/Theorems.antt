@@ -6,7 +6,7 @@ use mathlib.Core.List.{List}
 use mathlib.Core.Logic.{_⊎_, inl, inr, ⊎-elim}
 use Prim.Native.Nat.{ℕ, _≤_}
 use native.Mathlib.Omega.{arith}
-use lib.Dec.{leb, ltb, eqb}
+use lib.Dec.{leb, ltb}
 use lib.ListN.{length}
 use borrow.Author.Tests.{leb-true, le-ltb}
 use Rattle.refusal.specs.House.{house, asks}
@@ -14,11 +14,12 @@ use Rattle.refusal.proofs.Laws.{not-both}
 use Rattle.store.specs.declared.Limits.{Limits}
 use Rattle.store.specs.declared.Edition.{Edition}
 use Rattle.store.specs.declared.Edition.the-variants.{Known, Unknown}
-use Rattle.store.specs.Layout.{total, edition1, edition2, pickEdition, editionIn, editionOf}
+use Rattle.store.specs.Layout.{edition1, edition2, editionOf}
 use Rattle.store.specs.Store.{encode, entries, sound}
 use Rattle.store.specs.Search.{chosen, placed, findIn, find, emptyIn, emptied}
 use Rattle.store.specs.Claims.{OneStore, HeaderSays, AcceptedSaysEdition, RequestsKeepSound, EmptyPeriodNeverFits, RefusedEmptyWritesNothing, OneAnswer}
 use Rattle.store.proofs.SoundLaws.{Sound, sound-says}
+use Rattle.store.proofs.SearchLaws.{known-edition}
 use Rattle.store.proofs.DecodeLaws.{encode-entries}
 use Rattle.store.proofs.WellFormedLaws.{sound-wellFormed}
 use Rattle.store.proofs.EncodeLaws.{entries-encode, encode-sound, one-list}
@@ -46,15 +47,6 @@ found-sound L s peer t f = go (sound L s) refl
     go : (b : Bool) → sound L s ≡ b → HeaderSays L s
     go true h = header-says L s h
     go false h = absurd (f (ap (λ (b : Bool). asks b 12 (placed (chosen peer t (entries L s)) (length (entries L s)))) h))
-
-known-edition : (n : ℕ) (L : Limits) → editionOf n ≡ Known L → (edition1 ≡ L) ⊎ (edition2 ≡ L)
-unfolding editionOf editionIn
-known-edition n L e = go (eqb n (total edition1)) (eqb n (total edition2)) e
-  where
-    go : (a b : Bool) → pickEdition a (Known edition1) (pickEdition b (Known edition2) Unknown) ≡ Known L → (edition1 ≡ L) ⊎ (edition2 ≡ L)
-    go true b q = inl cc
-    go false true q = inr cc
-    go false false q = let z : _≡_ {A = ℕ} 0 1 = cc in absurd (omega arith)
 
 found-edition : (E : Edition) (s : List ℕ) (peer t : ℕ) → ((L : Limits) → E ≡ Known L → (edition1 ≡ L) ⊎ (edition2 ≡ L)) → (findIn E s peer t ≡ house 1 → ⊥)
     → (findIn E s peer t ≡ house 12 → ⊥) → HeaderSays edition1 s ⊎ HeaderSays edition2 s

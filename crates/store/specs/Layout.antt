@@ -28,7 +28,7 @@ pub record Bounded (L : Limits) : Type 0 where
 abbrev pub edition1 : Limits
 edition1 = record { edition = 1; keys = 64; peers = 256 }
 
--- at most 500 keys, at most 4,000 peers altogether (change request 5)
+-- at most 500 keys, at most 4,000 peers altogether (document 02, change request 5)
 abbrev pub edition2 : Limits
 edition2 = record { edition = 2; keys = 500; peers = 4000 }
 

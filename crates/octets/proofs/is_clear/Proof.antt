@@ -1,14 +1,13 @@
 -- `octets::is_clear` meets its contract. The loop's invariant: what was seen and what is left decide together.
 -- Assumes nothing.
 use mathlib.Core.Path.{_≡_, refl, sym, ap, _∙_}
-use mathlib.Core.Bool.{Bool, false, _&&_}
+use mathlib.Core.Bool.{Bool, _&&_, and-true, and-false}
 use mathlib.Core.List.{List}
 use mathlib.Core.Logic.{⊎-elim}
 use Prim.Native.Nat.{ℕ, _+_, _-_, _≤_}
 use native.Mathlib.Nat.{add-zero, sub-zero}
 use native.Mathlib.Omega.{arith}
 use Rattle.octets.specs.Bytes.{part, allZero}
-use Rattle.octets.proofs.BoolLaws.{and-false-right, and-true-right}
 use Rattle.octets.proofs.PartLaws.{allZero-turn, allZero-fails, allZero-end}
 use Rattle.octets.proofs.is_clear.Statement.{statement}
 use Rattle.octets.proofs.is_clear.Tie as tie
@@ -44,7 +43,7 @@ loop-again c =
       omega arith,
       l .loop .inv .1
           ∙ ⊎-elim
-          (λ w. ap (λ (b : Bool). l .loop .clear && b) (allZero-fails s (a .i) (a .n) k (omega arith) (l .before .pre) (w .0 .taken)) ∙ and-false-right (l .loop .clear) false refl ∙ sym (ap (λ (b : Bool). b && allZero more) (w .1)))
+          (λ w. ap (λ (b : Bool). l .loop .clear && b) (allZero-fails s (a .i) (a .n) k (omega arith) (l .before .pre) (w .0 .taken)) ∙ and-false (l .loop .clear) ∙ sym (ap (λ (b : Bool). b && allZero more) (w .1)))
           (λ w. ap (λ (b : Bool). l .loop .clear && b) (allZero-turn s (a .i) (a .n) k (omega arith) (l .before .pre) (w .0 .left)) ∙ sym (ap (λ (b : Bool). b && allZero more) (w .1)))
           (c .if1 .came),
     )
@@ -53,7 +52,7 @@ returns : tie.Need-returns Inv-loop μ-loop
 returns c =
     let l = c .before in
     let a = l .before .args in
-    sym (l .loop .inv .1 ∙ and-true-right (l .loop .clear) (allZero (part (a .s .now) (a .i + l .loop .k) (a .n - l .loop .k))) (allZero-end (a .s .now) (a .i) (a .n) (l .loop .k) (omega arith)))
+    sym (l .loop .inv .1 ∙ ap (λ (b : Bool). l .loop .clear && b) (allZero-end (a .s .now) (a .i) (a .n) (l .loop .k) (omega arith)) ∙ and-true (l .loop .clear))
 
 pub is-clear-spec : {M : Type 1} → statement M
 is-clear-spec =
