@@ -49,7 +49,11 @@ impl LookedUp {
             (left, right) = (right, from_fn(|i| left[i] ^ mixed[i]));
         }
         let octets = block.to_be_bytes();
-        u64::from_be_bytes(if inverse { des.decipher(&octets) } else { des.encipher(&octets) })
+        u64::from_be_bytes(if inverse {
+            des.decipher(&octets)
+        } else {
+            des.encipher(&octets)
+        })
     }
 
     fn is_all(&self) -> bool {
@@ -59,8 +63,12 @@ impl LookedUp {
 
 /// The MAC of 512 bytes, byte i being i modulo 251, to the destination 123456.
 fn mac(looked_up: &mut LookedUp) {
-    let [k1, k2, k3] = [0x4561_57bf_b6ab_fbe5, 0x9d54_6497_bf46_cd7a, 0xf8ec_ae25_b99b_02f8]
-        .map(|key| looked_up.schedule(key));
+    let [k1, k2, k3] = [
+        0x4561_57bf_b6ab_fbe5,
+        0x9d54_6497_bf46_cd7a,
+        0xf8ec_ae25_b99b_02f8,
+    ]
+    .map(|key| looked_up.schedule(key));
     let mut string = vec![0x02, 0x03, 0x12, 0x34, 0x56];
     string.extend((0..512).map(|i| (i % 251) as u8));
     string.resize(520, 0);
@@ -75,7 +83,9 @@ fn mac(looked_up: &mut LookedUp) {
 
 /// The three formulas for the KMACs that DES makes, as many as said.
 fn session_keys(looked_up: &mut LookedUp, kmacs: usize) {
-    let next = |key: u64, x: u64| u64::from_be_bytes(Des::new(&key.to_be_bytes()).encipher(&x.to_be_bytes()));
+    let next = |key: u64, x: u64| {
+        u64::from_be_bytes(Des::new(&key.to_be_bytes()).encipher(&x.to_be_bytes()))
+    };
     let mut x: u64 = 0x0123_4567_89ab_cdef;
     for _ in 0..kmacs {
         let k1 = next(x, x);
