@@ -8,21 +8,21 @@ use native.Mathlib.Omega.{arith}
 use lib.Dec.{eqb}
 use lib.ListN.{length, take, drop, replicate}
 use borrow.Author.Tests.{eq-eqb, ne-eqb, le-leb, lt-leb}
-use Rattle.octets.specs.Bytes.{part, splice, same}
+use Rattle.octets.specs.Bytes.{between, part, splice, same}
+use Rattle.octets.proofs.BoolLaws.{between-true}
 use Rattle.refusal.specs.House.{Answer, house, gives, houseNumber}
 use Rattle.refusal.proofs.Laws.{asks-gives, one-number, house-number, gives-number, not-both}
 use Rattle.refusal.specs.declared.Refusal.{Refusal}
 use Rattle.refusal.specs.declared.Refusal.the-variants.{OutputLength, DataLength, KeyLength}
 use Rattle.authentication.specs.Mac.{mac}
 use Rattle.authentication.specs.Keys.{sessionKeys, derivedAs, derived, Derives}
-use Rattle.authentication.specs.Unit.{unitOf, between, built, builtAs, Builds, body, macOf, rightContents, checked, checkedAs, dataOf}
+use Rattle.authentication.specs.Unit.{unitOf, built, builtAs, Builds, body, macOf, rightContents, checked, checkedAs, dataOf}
 use Rattle.authentication.specs.declared.Derived.{Derived}
 use Rattle.authentication.specs.declared.Derived.the-variants as derived-as
 use Rattle.authentication.specs.declared.Built.{Built}
 use Rattle.authentication.specs.declared.Built.the-variants as built-as
 use Rattle.authentication.specs.declared.Checked.{Checked}
 use Rattle.authentication.specs.declared.Checked.the-variants as checked-as
-use Rattle.authentication.proofs.UnitLaws.{between-true}
 
 -- ---- session keys
 

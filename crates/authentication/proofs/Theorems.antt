@@ -10,8 +10,8 @@ use lib.Count.{ones}
 use lib.Dec.{eqb, leb}
 use lib.ListN.{length, getD, take, drop, replicate, length-append, take-append-drop}
 use borrow.Author.Tests.{eqb-true, leb-true, le-leb}
-use Rattle.octets.specs.Bytes.{part, same}
-use Rattle.octets.proofs.BoolLaws.{and-both, and-left, and-right, same-refl, same-true}
+use Rattle.octets.specs.Bytes.{between, part, same}
+use Rattle.octets.proofs.BoolLaws.{and-both, and-left, and-right, between-true, is-between, same-refl, same-true}
 use Rattle.octets.proofs.SpliceLaws.{splice-front}
 use Rattle.des.proofs.ByteLaws.{length-bytesOfBits}
 use Rattle.des.specs.Bits.{bytesOfBits}
@@ -19,11 +19,11 @@ use Rattle.refusal.specs.House.{Answer, gives, unlessRefused}
 use Rattle.refusal.proofs.Laws.{asks-gives, gives-number}
 use Rattle.authentication.specs.Mac.{mac}
 use Rattle.authentication.specs.Keys.{odd, ks1, ks2, ks3, sessionKeys, derived}
-use Rattle.authentication.specs.Unit.{header, message, unitOf, between, built, buffer, body, macOf, rightHeader, rightContents, checked, dataOf}
+use Rattle.authentication.specs.Unit.{header, message, unitOf, built, buffer, body, macOf, rightHeader, rightContents, checked, dataOf}
 use Rattle.authentication.specs.Claims.{TellsPair, StringTells, OnePair, ParityFreeMac, ParityFreeCalls, Accepts, IsBuilt, AcceptedExactlyBuilt, WrittenAccepted, RefusedBuildWritesNothing, OddParity, OneAnswer}
 use Rattle.authentication.proofs.PairLaws.{string-tells-pair, one-told}
 use Rattle.authentication.proofs.KeyLaws.{odd-ones, odd-high}
-use Rattle.authentication.proofs.UnitLaws.{between-true, header-only, header-right, take-first, length-unit, body-unit, mac-unit, data-unit, first-unit}
+use Rattle.authentication.proofs.UnitLaws.{header-only, header-right, take-first, length-unit, body-unit, mac-unit, data-unit, first-unit}
 use Rattle.authentication.proofs.AnswerLaws.{Passed, passed, all-right, one-derived, one-built, one-checked}
 use Rattle.authentication.proofs.ParityLaws.{set-parity, same-mac, same-keys, same-unit, same-built, same-checked, same-derived}
 
@@ -103,7 +103,7 @@ unit-accepted : (key destination : List ℕ) (direction : Bool) (d : List ℕ) �
 unit-accepted key destination direction d k some most =
     let u = unitOf key destination direction d in
     let n : length u ≡ length d + 9 = length-unit key destination direction d in
-    let l : between 9 1032 (length u) ≡ true = and-both (leb 9 (length u)) (leb (length u) 1032) (le-leb 9 (length u) (omega arith)) (le-leb (length u) 1032 (omega arith)) in
+    let l : between 9 1032 (length u) ≡ true = is-between 9 1032 (length u) (omega arith) (omega arith) in
     let m : same (mac key destination (body u)) (macOf u) ≡ true =
     ap₂ (λ (x y : List ℕ). same (mac key destination x) y) (body-unit key destination direction d) (mac-unit key destination direction d) ∙ same-refl (mac key destination (message direction d)) in
     let c : rightContents direction u ≡ true =

@@ -6,22 +6,17 @@ use mathlib.Core.List.{List, [], _∷_}
 use Prim.Native.Nat.{ℕ, zero, suc, _+_, _-_, _/_, _%_, _≤_, _<_}
 use native.Mathlib.Omega.{arith}
 use lib.Bits.{bitAnd, bitOr, and-mask}
-use lib.Dec.{eqb, leb}
+use lib.Dec.{eqb}
 use lib.ListN.{length, getD, take, drop, set, length-append}
 use lib.Seq.{take-at, drop-at}
-use borrow.Author.Tests.{eqb-true, eq-eqb, ne-eqb, leb-true}
+use borrow.Author.Tests.{eqb-true, eq-eqb, ne-eqb}
 use Rattle.octets.specs.Bytes.{part, splice}
 use Rattle.octets.proofs.BoolLaws.{and-left, and-right}
 use Rattle.octets.proofs.PartLaws.{part-whole}
 use Rattle.octets.proofs.SpliceLaws.{set-splice, splice-splice, splice-front}
 use Rattle.authentication.specs.Mac.{mac}
-use Rattle.authentication.specs.Unit.{flag, header, message, unitOf, between, body, macOf, rightHeader}
+use Rattle.authentication.specs.Unit.{flag, header, message, unitOf, body, macOf, rightHeader}
 use Rattle.authentication.proofs.MacLaws.{length-mac}
-
--- ---- a length between bounds
-
-pub between-true : (low high n : ℕ) → between low high n ≡ true → (low ≤ n) × (n ≤ high)
-between-true low high n e = (leb-true low n (and-left (leb low n) (leb n high) e), leb-true n high (and-right (leb low n) (leb n high) e))
 
 -- ---- the first byte
 

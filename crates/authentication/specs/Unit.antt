@@ -6,7 +6,7 @@ use mathlib.Core.List.{List, [], _∷_, _++_}
 use Prim.Native.Nat.{ℕ, _+_, _-_, _*_, _/_, _%_}
 use lib.Dec.{eqb, leb}
 use lib.ListN.{length, getD, take, drop}
-use Rattle.octets.specs.Bytes.{part, splice, same}
+use Rattle.octets.specs.Bytes.{between, part, splice, same}
 use Rattle.refusal.specs.House.{Answer, house, gives, asks, houseNumber, unlessRefused}
 use Rattle.authentication.specs.Mac.{mac}
 use Rattle.authentication.specs.declared.Checked.{Checked}
@@ -37,10 +37,6 @@ unfoldable pub unitOf : List ℕ → List ℕ → Bool → List ℕ → List ℕ
 unitOf key destination direction user = message direction user ++ mac key destination (message direction user)
 
 -- ---- building
-
--- a length between two bounds
-abbrev pub between : ℕ → ℕ → ℕ → Bool
-between low high n = leb low n && leb n high
 
 -- H13, H2, H10, or the length of the unit
 unfoldable pub built : List ℕ → List ℕ → List ℕ → Answer

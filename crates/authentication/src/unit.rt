@@ -2,9 +2,9 @@
 ghost use mathlib.Core.Path.{_≡_};
 ghost use Prim.Native.Nat.{_+_, _≤_};
 ghost use lib.ListN.{length, take};
-ghost use Rattle.octets.specs.Bytes.{splice, same};
+ghost use Rattle.octets.specs.Bytes.{between as isBetween, splice, same};
 ghost use Rattle.authentication.specs.Mac.{mac};
-ghost use Rattle.authentication.specs.Unit.{flag as flagOf, header as headerOf, message, unitOf, between as isBetween, body, macOf, rightHeader, rightContents};
+ghost use Rattle.authentication.specs.Unit.{flag as flagOf, header as headerOf, message, unitOf, body, macOf, rightHeader, rightContents};
 use crate::cbc::mac_word;
 
 // Bytes of a triple key.

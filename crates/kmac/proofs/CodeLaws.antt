@@ -11,6 +11,8 @@ use lib.ListN.{length}
 use mir.Syntax.{w32}
 use mir.Val.{SFits, toZ, ofZ}
 use mir.ValLaws.{toZ-pos, toZ-ofZ}
+use Rattle.octets.specs.Bytes.{between}
+use Rattle.octets.proofs.BoolLaws.{between-true}
 use Rattle.refusal.specs.House.{Answer, house, gives, houseNumber, unlessRefused}
 use Rattle.refusal.specs.declared.Refusal.{Refusal}
 use Rattle.refusal.specs.declared.Refusal.the-variants.{StoreLength, OutputLength, SessionClosed, MessageShort, NoSessionInit, SameIdentity, UnitLength, MacDiffers, UnitContents, DataLength, NoKey, StoreUnsound, KeyLength}
@@ -20,8 +22,7 @@ use Rattle.store.specs.declared.Edition.the-variants.{Known, Unknown}
 use Rattle.store.specs.Layout.{editionOf}
 use Rattle.store.specs.Search.{find, findIn}
 use Rattle.store.proofs.SearchLaws.{editionOf-says, find-placed}
-use Rattle.authentication.specs.Unit.{between, built, checked}
-use Rattle.authentication.proofs.UnitLaws.{between-true}
+use Rattle.authentication.specs.Unit.{built, checked}
 use Rattle.authentication.proofs.AnswerLaws.{passed}
 use Rattle.kmac.specs.Code.{code}
 

@@ -10,13 +10,10 @@ use native.Mathlib.Omega.{arith}
 use lib.ListN.{length, getD, drop, drop-of-length-le}
 use lib.Seq.{drop-cons}
 use lib.Pow.{pow-mono, pow-add}
-use lib.Dec.{leb, ltb}
-use borrow.Author.Tests.{lt-ltb, le-ltb, ltb-true, leb-true}
+use lib.Dec.{ltb}
+use borrow.Author.Tests.{lt-ltb, le-ltb, ltb-true}
 use Rattle.octets.proofs.BoolLaws.{and-left, and-right}
-use Rattle.lines.specs.Digits.{within, digit, areDigits, numeral}
-
-pub within-low : (low high x : ℕ) → within low high x ≡ true → low ≤ x
-within-low low high x e = leb-true low x (and-left (leb low x) (leb x high) e)
+use Rattle.lines.specs.Digits.{digit, areDigits, numeral}
 
 -- ---- the test that every element is a digit
 

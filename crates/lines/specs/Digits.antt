@@ -4,26 +4,23 @@ use mathlib.Core.Bool.{Bool, true, false, _&&_}
 use mathlib.Core.List.{List, [], _∷_}
 use mathlib.Core.Path.{_≡_}
 use Prim.Native.Nat.{ℕ, _+_, _-_, _*_, _/_, _%_, _<_, _^_}
-use lib.Dec.{leb, ltb}
+use lib.Dec.{ltb}
 use lib.ListN.{length}
-use Rattle.octets.specs.Bytes.{splice}
+use Rattle.octets.specs.Bytes.{between, splice}
 use Rattle.io.specs.Counts.{Counts}
 
 abbrev pub pickNumber : Bool → ℕ → ℕ → ℕ
 pickNumber true a b = a
 pickNumber false a b = b
 
-abbrev pub within : ℕ → ℕ → ℕ → Bool
-within low high x = leb low x && leb x high
-
 -- ---- digits
 
 -- 0 to 9 are 48 to 57, A to F are 65 to 70, a to f are 97 to 102; 16 where it is none
 unfoldable pub digit : ℕ → ℕ
 digit b =
-    pickNumber (within 48 57 b) (b - 48)
-    (pickNumber (within 65 70 b) (b - 65 + 10)
-    (pickNumber (within 97 102 b) (b - 97 + 10) 16))
+    pickNumber (between 48 57 b) (b - 48)
+    (pickNumber (between 65 70 b) (b - 65 + 10)
+    (pickNumber (between 97 102 b) (b - 97 + 10) 16))
 
 -- every element is a digit in the base
 unfoldable pub areDigits : ℕ → List ℕ → Bool

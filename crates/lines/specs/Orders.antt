@@ -6,8 +6,8 @@ use mathlib.Core.Path.{_≡_}
 use Prim.Native.Nat.{ℕ, _+_, _*_, _%_, _/_, _^_, _≤_, _<_}
 use lib.Dec.{leb, ltb, eqb}
 use lib.ListN.{length, getD}
-use Rattle.octets.specs.Bytes.{same}
-use Rattle.lines.specs.Digits.{areDigits, numeral, within}
+use Rattle.octets.specs.Bytes.{between, same}
+use Rattle.lines.specs.Digits.{areDigits, numeral}
 use Rattle.lines.specs.Words.{word}
 use Rattle.lines.specs.declared.orders.Command.{Command}
 use Rattle.lines.specs.declared.orders.Command.the-variants as command
@@ -37,7 +37,7 @@ unfoldable pub decimalField : List ℕ → ℕ → ℕ → Field
 decimalField w least most =
     pickField (areDigits 10 w)
     (pickField (leb (length w) 16)
-    (pickField (within least most (numeral 10 0 w)) (field.Value (numeral 10 0 w)) (field.Bad fault.OutOfRange))
+    (pickField (between least most (numeral 10 0 w)) (field.Value (numeral 10 0 w)) (field.Bad fault.OutOfRange))
     (field.Bad fault.OutOfRange))
     (field.Bad fault.NotDecimal)
 

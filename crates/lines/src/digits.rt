@@ -3,11 +3,11 @@ ghost use mathlib.Core.Path.{_≡_};
 ghost use mathlib.Core.Bool.{true};
 ghost use Prim.Native.Nat.{_<_, _≤_, _/_, _*_, min};
 ghost use lib.ListN.{length, take};
-ghost use Rattle.octets.specs.Bytes.{splice};
-ghost use Rattle.lines.specs.Digits.{within as isWithin, digit as digitOf, areDigits, glyph as glyphOf, fromHex, bytesOf, toHex, Numbers, Puts};
+ghost use Rattle.octets.specs.Bytes.{between as isBetween, splice};
+ghost use Rattle.lines.specs.Digits.{digit as digitOf, areDigits, glyph as glyphOf, fromHex, bytesOf, toHex, Numbers, Puts};
 
-fn within(low: u8, high: u8, x: u8) -> bool
-    ensures { λ r. ⌜ r ≡ isWithin low high x ⌝ }
+fn between(low: u8, high: u8, x: u8) -> bool
+    ensures { λ r. ⌜ r ≡ isBetween low high x ⌝ }
 {
     if x < low {
         return false;
@@ -19,13 +19,13 @@ fn within(low: u8, high: u8, x: u8) -> bool
 fn digit(b: u8) -> u8
     ensures { λ r. ⌜ r ≡ digitOf b ⌝ }
 {
-    if within(b'0', b'9', b) {
+    if between(b'0', b'9', b) {
         return b - b'0';
     }
-    if within(b'A', b'F', b) {
+    if between(b'A', b'F', b) {
         return b - b'A' + 10;
     }
-    if within(b'a', b'f', b) {
+    if between(b'a', b'f', b) {
         return b - b'a' + 10;
     }
     16

@@ -8,14 +8,14 @@ use native.Mathlib.Omega.{arith}
 use lib.ListN.{length, getD}
 use lib.Dec.{eqb, leb, lit≤}
 use borrow.Author.Tests.{eqb-true, leb-true, eq-eqb, ne-eqb, le-leb, lt-leb}
-use Rattle.octets.specs.Bytes.{get16}
-use Rattle.octets.proofs.BoolLaws.{and-both, and-left, and-right, and-false-left, and-false-right, clash}
+use Rattle.octets.specs.Bytes.{between, get16}
+use Rattle.octets.proofs.BoolLaws.{and-both, and-left, and-right, and-false-left, and-false-right, clash, between-true, is-between, under, over}
 use Rattle.message.specs.declared.Command.{Command}
 use Rattle.message.specs.declared.Task.the-variants.{Requests}
 use Rattle.message.specs.declared.Command.the-variants.{Adds, Deletes, Validities, Entities}
 use Rattle.message.specs.declared.Sized.{Sized}
 use Rattle.message.specs.declared.Sized.the-variants.{Size, Bad}
-use Rattle.message.specs.Body.{sizeIf, sized, sizeAt, fieldsOk, fieldsFrom, inRange, addCount, listOk, requestNumber, most, bodyOk}
+use Rattle.message.specs.Body.{sizeIf, sized, sizeAt, fieldsOk, fieldsFrom, addCount, listOk, requestNumber, most, bodyOk}
 
 -- ---- the four ways a size is decided
 
@@ -30,15 +30,6 @@ size-wrong ok size m at h = rw h
 pub size-right : (ok : Bool) (size : ℕ) (m : List ℕ) (at : ℕ) → ok ≡ true → at + size ≤ length m → sizeIf ok size m at ≡ Size size
 unfolding sizeIf
 size-right ok size m at p h = rw (and-both ok (leb (at + size) (length m)) p (le-leb (at + size) (length m) h))
-
-pub in-range : (a b n : ℕ) → a ≤ n → n ≤ b → inRange a b n ≡ true
-in-range a b n p q = and-both (leb a n) (leb n b) (le-leb a n p) (le-leb n b q)
-
-pub under : (a b n : ℕ) → n < a → inRange a b n ≡ false
-under a b n h = and-false-left (leb a n) (leb n b) (lt-leb a n h)
-
-pub over : (a b n : ℕ) → b < n → inRange a b n ≡ false
-over a b n h = and-false-right (leb a n) (leb n b) (lt-leb n b h)
 
 -- ---- a turn of the body test
 
@@ -108,7 +99,7 @@ not-within false f = refl
 module _ (k : Command) (m : List ℕ) where
   pub list-short : length m < 22 → listOk k m ≡ false
   list-short h =
-      and-false-right (inRange 1 (most k) (requestNumber m)) (fieldsFrom k m 22 (requestNumber m))
+      and-false-right (between 1 (most k) (requestNumber m)) (fieldsFrom k m 22 (requestNumber m))
       (not-within (fieldsFrom k m 22 (requestNumber m)) (λ e. let w : 22 ≤ length m = fields-within k m (requestNumber m) 22 e in omega arith))
 
   pub list-none : (n : ℕ) → n ≡ requestNumber m → n < 1 → listOk k m ≡ false
@@ -119,7 +110,7 @@ module _ (k : Command) (m : List ℕ) where
 
   pub list-fields : (n : ℕ) → n ≡ requestNumber m → 1 ≤ n → n ≤ most k → listOk k m ≡ fieldsFrom k m 22 n
   list-fields n e p q =
-      let a : inRange 1 (most k) (requestNumber m) ≡ true = in-range 1 (most k) (requestNumber m) (omega arith) (omega arith) in
+      let a : between 1 (most k) (requestNumber m) ≡ true = is-between 1 (most k) (requestNumber m) (omega arith) (omega arith) in
       simp a (ap (λ (x : ℕ). fieldsFrom k m 22 x) (sym e))
 
 -- ---- the size of a K-STRUCT, return by return
@@ -131,11 +122,11 @@ add-short m at h = size-short (fieldsOk Adds m at) (47 + 4 * addCount m at) m at
 pub add-wrong : (m : List ℕ) (at : ℕ) → (getD m at 0 ≡ 24 → ⊥) → sized Adds m at ≡ Bad
 unfolding sized fieldsOk
 add-wrong m at h =
-    size-wrong (eqb (getD m at 0) 24 && inRange 1 1000 (addCount m at)) (sizeAt Adds m at) m at
-    (and-false-left (eqb (getD m at 0) 24) (inRange 1 1000 (addCount m at)) (ne-eqb (getD m at 0) 24 h))
+    size-wrong (eqb (getD m at 0) 24 && between 1 1000 (addCount m at)) (sizeAt Adds m at) m at
+    (and-false-left (eqb (getD m at 0) 24) (between 1 1000 (addCount m at)) (ne-eqb (getD m at 0) 24 h))
 
 pub add-rest : (m : List ℕ) (at : ℕ) → getD m at 0 ≡ 24
-    → sized Adds m at ≡ sizeIf (inRange 1 1000 (get16 m (at + 37))) (47 + 4 * get16 m (at + 37)) m at
+    → sized Adds m at ≡ sizeIf (between 1 1000 (get16 m (at + 37))) (47 + 4 * get16 m (at + 37)) m at
 unfolding sized fieldsOk sizeAt
 add-rest m at h = rw (eq-eqb (getD m at 0) 24 h)
 
@@ -149,7 +140,7 @@ pub validities-size : (m : List ℕ) (at : ℕ) → sized Validities m at ≡ si
 unfolding sized fieldsOk sizeAt
 validities-size m at = refl
 
-pub entities-size : (m : List ℕ) (at : ℕ) → sized Entities m at ≡ sizeIf (inRange 1 1000 (get16 m (at + 8))) (10 + 4 * get16 m (at + 8)) m at
+pub entities-size : (m : List ℕ) (at : ℕ) → sized Entities m at ≡ sizeIf (between 1 1000 (get16 m (at + 8))) (10 + 4 * get16 m (at + 8)) m at
 unfolding sized fieldsOk sizeAt
 entities-size m at = refl
 
@@ -157,20 +148,20 @@ entities-size m at = refl
 
 module _ (m : List ℕ) (at field base n : ℕ) (read : n ≡ get16 m (at + field)) where
   abbrev decided : Sized
-  decided = sizeIf (inRange 1 1000 (get16 m (at + field))) (base + 4 * get16 m (at + field)) m at
+  decided = sizeIf (between 1 1000 (get16 m (at + field))) (base + 4 * get16 m (at + field)) m at
 
   pub peers-under : n < 1 → decided ≡ Bad
-  peers-under h = size-wrong (inRange 1 1000 (get16 m (at + field))) (base + 4 * get16 m (at + field)) m at (under 1 1000 (get16 m (at + field)) (omega arith))
+  peers-under h = size-wrong (between 1 1000 (get16 m (at + field))) (base + 4 * get16 m (at + field)) m at (under 1 1000 (get16 m (at + field)) (omega arith))
 
   pub peers-over : 1000 < n → decided ≡ Bad
-  peers-over h = size-wrong (inRange 1 1000 (get16 m (at + field))) (base + 4 * get16 m (at + field)) m at (over 1 1000 (get16 m (at + field)) (omega arith))
+  peers-over h = size-wrong (between 1 1000 (get16 m (at + field))) (base + 4 * get16 m (at + field)) m at (over 1 1000 (get16 m (at + field)) (omega arith))
 
   pub peers-short : length m < at + (base + 4 * n) → decided ≡ Bad
-  peers-short h = size-short (inRange 1 1000 (get16 m (at + field))) (base + 4 * get16 m (at + field)) m at (omega arith)
+  peers-short h = size-short (between 1 1000 (get16 m (at + field))) (base + 4 * get16 m (at + field)) m at (omega arith)
 
   pub peers-right : 1 ≤ n → n ≤ 1000 → at + (base + 4 * n) ≤ length m → decided ≡ Size (base + 4 * n)
   peers-right p q h =
-      size-right (inRange 1 1000 (get16 m (at + field))) (base + 4 * get16 m (at + field)) m at (in-range 1 1000 (get16 m (at + field)) (omega arith) (omega arith)) (omega arith)
+      size-right (between 1 1000 (get16 m (at + field))) (base + 4 * get16 m (at + field)) m at (is-between 1 1000 (get16 m (at + field)) (omega arith) (omega arith)) (omega arith)
       ∙ ap (λ (x : ℕ). Size (base + 4 * x)) (sym read)
 
 -- ---- what a body that passed the test has
@@ -190,7 +181,7 @@ pub listed : (k : Command) (m : List ℕ) → bodyOk (Requests k) m ≡ true →
 unfolding bodyOk
 listed k m h =
     let n = requestNumber m in
-    let r : inRange 1 (most k) n ≡ true = and-left (inRange 1 (most k) n) (fieldsFrom k m 22 n) h in
-    let f : fieldsFrom k m 22 n ≡ true = and-right (inRange 1 (most k) n) (fieldsFrom k m 22 n) h in
-    let l : n ≤ most k = leb-true n (most k) (and-right (leb 1 n) (leb n (most k)) r) in
+    let r : between 1 (most k) n ≡ true = and-left (between 1 (most k) n) (fieldsFrom k m 22 n) h in
+    let f : fieldsFrom k m 22 n ≡ true = and-right (between 1 (most k) n) (fieldsFrom k m 22 n) h in
+    let l : n ≤ most k = between-true 1 (most k) n r .1 in
     record { within = fields-within k m n 22 f; few = omega (arith, most-few k); fields = f }

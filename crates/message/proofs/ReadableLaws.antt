@@ -8,14 +8,14 @@ use native.Mathlib.Omega.{arith}
 use lib.ListN.{length}
 use lib.Dec.{leb}
 use borrow.Author.Tests.{leb-true}
-use Rattle.octets.specs.Bytes.{Bytes}
+use Rattle.octets.specs.Bytes.{Bytes, between}
 use Rattle.octets.proofs.BoolLaws.{and-left, and-right}
 use Rattle.octets.proofs.PartLaws.{part-length, bytes-part}
 use Rattle.octets.proofs.WordLaws.{get32-fits, numbers-fit}
 use Rattle.store.specs.WellFormed.{Readable, AllReadable}
 use Rattle.message.specs.declared.Command.{Command}
 use Rattle.message.specs.declared.Command.the-variants.{Adds, Deletes, Validities, Entities}
-use Rattle.message.specs.Body.{inRange, addCount, periodAt, entitiesCount, kmacAt, sizeAt, fieldsOk, fieldsFrom, requestAt, requestsFrom, requestNumber, requestsAt, most, listOk, requests}
+use Rattle.message.specs.Body.{addCount, periodAt, entitiesCount, kmacAt, sizeAt, fieldsOk, fieldsFrom, requestAt, requestsFrom, requestNumber, requestsAt, most, listOk, requests}
 
 module _ (k : Command) (m : List ℕ) where
   -- the first request ends within the message, and the others stand behind it
@@ -36,7 +36,7 @@ module _ (k : Command) (m : List ℕ) where
       and-right b c (and-right a (b && c) h)
 
   pub listOk-fields : listOk k m ≡ true → fieldsFrom k m requestsAt (requestNumber m) ≡ true
-  listOk-fields h = and-right (inRange 1 (most k) (requestNumber m)) (fieldsFrom k m requestsAt (requestNumber m)) h
+  listOk-fields h = and-right (between 1 (most k) (requestNumber m)) (fieldsFrom k m requestsAt (requestNumber m)) h
 
 pub readable-at : (k : Command) (m : List ℕ) → Bytes m → (at : ℕ) → at + sizeAt k m at ≤ length m → Readable (requestAt k m at)
 unfolding Readable requestAt sizeAt

@@ -5,7 +5,7 @@ use mathlib.Core.List.{List, [], _∷_}
 use Prim.Native.Nat.{ℕ, zero, suc, _+_, _*_}
 use lib.Dec.{leb, eqb}
 use lib.ListN.{length, getD}
-use Rattle.octets.specs.Bytes.{get16, get32, part}
+use Rattle.octets.specs.Bytes.{between, get16, get32, part}
 use Rattle.octets.specs.Words.{numbers}
 use Rattle.store.specs.Request.{Request, add, delete, validity, entities}
 use Rattle.message.specs.Header.{headerLength, typeNumber}
@@ -15,9 +15,6 @@ use Rattle.message.specs.declared.Task.{Task}
 use Rattle.message.specs.declared.Task.the-variants.{Requests, DeleteAll, EndOfUpdate}
 use Rattle.message.specs.declared.Sized.{Sized}
 use Rattle.message.specs.declared.Sized.the-variants.{Size, Bad}
-
-abbrev pub inRange : ℕ → ℕ → ℕ → Bool
-inRange a b n = leb a n && leb n b
 
 -- ---- one request, which stands at index i
 
@@ -43,10 +40,10 @@ sizeAt Entities m i = 10 + 4 * entitiesCount m i
 
 -- K-LENGTH is 24, and PEER-NUM in the range of 000 (5.3.4.1, 5.3.8.1)
 unfoldable pub fieldsOk : Command → List ℕ → ℕ → Bool
-fieldsOk Adds m i = eqb (getD m i 0) 24 && inRange 1 1000 (addCount m i)
+fieldsOk Adds m i = eqb (getD m i 0) 24 && between 1 1000 (addCount m i)
 fieldsOk Deletes m i = true
 fieldsOk Validities m i = true
-fieldsOk Entities m i = inRange 1 1000 (entitiesCount m i)
+fieldsOk Entities m i = between 1 1000 (entitiesCount m i)
 
 unfoldable pub requestAt : Command → List ℕ → ℕ → Request
 requestAt Adds m i =
@@ -103,7 +100,7 @@ requests k m = requestsFrom k m requestsAt (requestNumber m)
 
 -- REQ-NUM is in its range, and the body is exactly its fields
 abbrev pub listOk : Command → List ℕ → Bool
-listOk k m = inRange 1 (most k) (requestNumber m) && fieldsFrom k m requestsAt (requestNumber m)
+listOk k m = between 1 (most k) (requestNumber m) && fieldsFrom k m requestsAt (requestNumber m)
 
 unfoldable pub bodyOk : Task → List ℕ → Bool
 bodyOk (Requests k) m = listOk k m

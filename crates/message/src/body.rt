@@ -3,8 +3,8 @@ ghost use mathlib.Core.Path.{_≡_};
 ghost use mathlib.Core.Bool.{true};
 ghost use Prim.Native.Nat.{_+_, _*_, _≤_, _<_};
 ghost use lib.ListN.{length};
-ghost use Rattle.octets.specs.Bytes.{get16};
-ghost use Rattle.message.specs.Body.{sized, sizeIf, inRange, most, listOk, bodyOk, fieldsFrom};
+ghost use Rattle.octets.specs.Bytes.{between, get16};
+ghost use Rattle.message.specs.Body.{sized, sizeIf, most, listOk, bodyOk, fieldsFrom};
 use crate::Command;
 use crate::HEADER;
 use crate::Sized;
@@ -41,7 +41,7 @@ fn fixed_size(m: &[u8], i: usize, base: usize) -> Sized
 // A request of base bytes, among them a PEER-NUM at index field, and of that many identities.
 fn peers_size(m: &[u8], i: usize, field: usize, base: usize) -> Sized
     requires { ⌜ (i ≤ length (now m)) × (field + 2 ≤ base) × (base < 100) ⌝ }
-    ensures { λ r. ⌜ r ≡ sizeIf (inRange 1 1000 (get16 (now (m .entry)) (i + field))) (base + 4 * get16 (now (m .entry)) (i + field)) (now (m .entry)) i ⌝ }
+    ensures { λ r. ⌜ r ≡ sizeIf (between 1 1000 (get16 (now (m .entry)) (i + field))) (base + 4 * get16 (now (m .entry)) (i + field)) (now (m .entry)) i ⌝ }
 {
     let left = m.len() - i;
     if left < base {

@@ -1,16 +1,16 @@
--- Laws of `&&` and of tests over every number below a bound.
+-- Laws of `&&`, of a number between two bounds, and of tests over every number below a bound.
 -- Assumes nothing.
 use mathlib.Core.Path.{_≡_, refl, sym, ap₂, _∙_, subst}
 use mathlib.Core.Bool.{Bool, true, false, _&&_, not}
 use mathlib.Core.List.{List, [], _∷_}
 use mathlib.Core.Logic.{⊎-elim}
-use Prim.Native.Nat.{ℕ, zero, suc, _+_, _<_}
+use Prim.Native.Nat.{ℕ, zero, suc, _+_, _≤_, _<_}
 use native.Mathlib.Nat.{not-suc-le-zero, le-of-suc-le-suc, eq-or-lt-of-le}
 use native.Mathlib.Numerals.{add-one}
 use native.Mathlib.Omega.{arith}
-use lib.Dec.{eqb}
-use borrow.Author.Tests.{eqb-true, eq-eqb, not-true, not-false}
-use Rattle.octets.specs.Bytes.{allBelow, same}
+use lib.Dec.{eqb, leb}
+use borrow.Author.Tests.{eqb-true, eq-eqb, leb-true, le-leb, lt-leb, not-true, not-false}
+use Rattle.octets.specs.Bytes.{between, allBelow, same}
 
 -- a test is not both true and false
 pub clash : {A : Type 0} (a : Bool) → a ≡ true → a ≡ false → A
@@ -40,6 +40,20 @@ test-holds r e h = sym e ∙ not-false r h
 
 pub test-fails : (r : Bool) {b : Bool} → r ≡ b → not r ≡ true → b ≡ false
 test-fails r e h = sym e ∙ not-true r h
+
+-- ---- a number between two bounds
+
+pub between-true : (low high n : ℕ) → between low high n ≡ true → (low ≤ n) × (n ≤ high)
+between-true low high n e = (leb-true low n (and-left (leb low n) (leb n high) e), leb-true n high (and-right (leb low n) (leb n high) e))
+
+pub is-between : (low high n : ℕ) → low ≤ n → n ≤ high → between low high n ≡ true
+is-between low high n p q = and-both (leb low n) (leb n high) (le-leb low n p) (le-leb n high q)
+
+pub under : (low high n : ℕ) → n < low → between low high n ≡ false
+under low high n h = and-false-left (leb low n) (leb n high) (lt-leb low n h)
+
+pub over : (low high n : ℕ) → high < n → between low high n ≡ false
+over low high n h = and-false-right (leb low n) (leb n high) (lt-leb n high h)
 
 -- ---- a test of every number below n
 

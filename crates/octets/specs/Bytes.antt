@@ -3,7 +3,7 @@
 use mathlib.Core.Bool.{Bool, true, false, _&&_}
 use mathlib.Core.List.{List, [], _∷_, _++_}
 use Prim.Native.Nat.{ℕ, zero, suc, _+_, _*_, _/_, _%_, _<_}
-use lib.Dec.{eqb}
+use lib.Dec.{eqb, leb}
 use lib.ListN.{getD, take, drop, length, replicate}
 
 -- each element is a byte
@@ -55,6 +55,10 @@ unfoldable pub opened : List ℕ → ℕ → ℕ → ℕ → List ℕ
 opened d i gap n = splice d (i + gap) (part d i n)
 
 -- ---- tests
+
+-- a number lies between two bounds, or is one of them
+abbrev pub between : ℕ → ℕ → ℕ → Bool
+between low high n = leb low n && leb n high
 
 -- every element is zero
 unfoldable pub allZero : List ℕ → Bool

@@ -4,9 +4,8 @@ use mathlib.Core.Path.{_≡_}
 use mathlib.Core.Bool.{true}
 use Prim.Native.Nat.{_-_}
 use lib.ListN.{length}
-use Rattle.authentication.specs.Unit.{between}
-use Rattle.octets.proofs.BoolLaws.{test-holds, test-fails}
-use Rattle.authentication.proofs.UnitLaws.{between-true}
+use Rattle.octets.specs.Bytes.{between}
+use Rattle.octets.proofs.BoolLaws.{between-true, test-holds, test-fails}
 use Rattle.authentication.proofs.AnswerLaws.{key-wrong, length-wrong, mac-wrong, contents-wrong, all-right}
 use borrow.Author.Needs.{needs}
 use Rattle.authentication.proofs.check.Statement.{statement}

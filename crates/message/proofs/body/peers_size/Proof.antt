@@ -3,8 +3,7 @@
 use mathlib.Core.Path.{sym}
 use Prim.Native.Nat.{_+_, _-_, _*_}
 use borrow.Author.Needs.{needs}
-use Rattle.octets.specs.Bytes.{get16}
-use Rattle.message.specs.Body.{inRange}
+use Rattle.octets.specs.Bytes.{between, get16}
 use Rattle.message.proofs.BodyLaws.{size-short, peers-under, peers-over, peers-short, peers-right}
 use native.Mathlib.Omega.{arith}
 use Rattle.message.proofs.body.peers_size.Statement.{statement}
@@ -16,7 +15,7 @@ sub-left c = search needs
 returns : tie.Need-returns
 returns c =
     let a = c .before .before .args in
-    sym (size-short (inRange 1 1000 (get16 (a .m .now) (a .i + a .field))) (a .base + 4 * get16 (a .m .now) (a .i + a .field)) (a .m .now) (a .i) (omega arith))
+    sym (size-short (between 1 1000 (get16 (a .m .now) (a .i + a .field))) (a .base + 4 * get16 (a .m .now) (a .i + a .field)) (a .m .now) (a .i) (omega arith))
 
 add-number-at : tie.Need-add-number-at
 add-number-at c = search needs
