@@ -140,10 +140,15 @@ enum kmac_refusal {
 int32_t kmac_empty_store(uint8_t *store, size_t store_len);
 
 /*
- * Searches the key for a peer at the moment t: the first record that has the peer in its list and start <= t < end, the
- * three compared as unsigned numbers. Beware: SUBSET-137, 4.2.3.1, codes a moment with the hour first, and the numbers of
- * that coding are not in the order of time. The host sees to it that periods and t reach the module in a coding whose
- * numbers are.
+ * Searches the key for a peer at the moment t: the first record that has the peer in its list and start <= t <= end, the
+ * three compared as unsigned numbers. The end counts: a key fits until the hour that its end names is over. So t is the
+ * hour that has begun, its minutes cut off; a host with finer moments moves each end to the last moment of its hour. A key
+ * with start = end fits in that one hour, one with start > end never, and one with the end 0xFFFFFFFF from its start on.
+ * Beware: SUBSET-137, 4.2.3.2, leaves the end out. A key centre that keeps to that names the hour after the last one, and
+ * its keys fit an hour longer than it means; where it lets one key of a peer start when another ends, both fit in that
+ * hour, and the first in the store is taken.
+ * Beware also: SUBSET-137, 4.2.3.1, codes a moment with the hour first, and the numbers of that coding are not in the order
+ * of time. The host sees to it that periods and t reach the module in a coding whose numbers are.
  * Answers the place of the record, the first being 1; its KMAC stands in the store at KMAC_KEY_AT(place).
  * Refuses H1, H12, H11. Writes nothing.
  */
@@ -241,12 +246,12 @@ int32_t kmac_check(const uint8_t *unit, size_t unit_len, const uint8_t *key, siz
 /* ---- power-on */
 
 /*
- * The self-test, for power-on. It works the tables of the quick rounds again from the tables that FIPS 46-3 prints, entry by
- * entry; two blocks by both, both ways; the example of SUBSET-037-2, Annex B, by the quick rounds; and a MAC and session
- * keys, as the calls above make them, against the printed tables. It takes nothing from the host.
- * Answers 0, or -1 where it fails. It is proved to answer 0 on a machine that does what the language says. So -1, which is no
- * refusal here, says that memory, processor or the compiler's back end are not what was proved, and no answer of the library
- * can be relied on. 0 says that these computations came out right this once; sessions and stores are not looked at.
+ * The self-test, for power-on. It works the tables of the quick rounds again from the tables that FIPS 46-3 prints, entry
+ * by entry; two blocks by both, both ways; the example of SUBSET-037-2, Annex B, by the quick rounds; and a MAC and
+ * session keys, as the calls above make them, against the printed tables. It takes nothing from the host.
+ * Answers 0, or -1 where it fails. It is proved to answer 0 on a machine that does what the language says. So -1, which is
+ * no refusal here, says that memory, processor or the compiler's back end are not what was proved, and no answer of the
+ * library can be relied on. 0 says that these computations came out right this once; sessions and stores are not looked at.
  */
 int32_t kmac_self_test(void);
 

@@ -12,8 +12,11 @@
 /* Expanded ETCS IDs: 1 is the type of an RBC, 2 of an engine, 5 of a key management entity. */
 enum { RBC = 0x01123456, OTHER_RBC = 0x01123457, TUG = 0x02e6a54b, KEY_CENTRE = 0x05112233 };
 
-/* Moments in a coding whose numbers stand in the order of time. */
-enum { START = 2026111500, NOON = 2026111512, END = 2027111500 };
+/*
+ * Moments in whole hours, the bytes of SUBSET-137, 4.2.3.1, turned round to year, month, day, hour, so that their numbers
+ * stand in the order of time. END is the last hour of the keys; by 4.2.3.2 it would be AFTER_END.
+ */
+enum { START = 0x26111500, NOON = 0x26111512, END = 0x27111423, AFTER_END = 0x27111500 };
 
 /* What the host keeps: two places for the store, of which one counts, and the session. All zero bytes: a closed session. */
 static uint8_t kept[2][KMAC_STORE_LEN];
@@ -152,7 +155,8 @@ static void derive(uint8_t keys[KMAC_KEY_LEN])
     static const uint8_t rb[KMAC_RANDOM_LEN] = {0x99, 0xaa, 0xbb, 0xcc, 0xdd, 0xee, 0xff, 0x00};
     const uint8_t *store = kept[current];
     step("find a key for the other RBC", kmac_find(store, KMAC_STORE_LEN, OTHER_RBC, NOON), KMAC_H11_NO_KEY);
-    step("find the key for the RBC, a year too late", kmac_find(store, KMAC_STORE_LEN, RBC, END), KMAC_H11_NO_KEY);
+    step("find the key for the RBC in its last hour", kmac_find(store, KMAC_STORE_LEN, RBC, END), 1);
+    step("find the key for the RBC, an hour too late", kmac_find(store, KMAC_STORE_LEN, RBC, AFTER_END), KMAC_H11_NO_KEY);
     int32_t place = kmac_find(store, KMAC_STORE_LEN, RBC, NOON);
     step("find the key for the RBC: its place", place, 1);
     step("session keys", kmac_session_keys(store + KMAC_KEY_AT(place), KMAC_KEY_LEN, ra, rb, keys), 0);

@@ -1,4 +1,5 @@
--- Document 01's numbers to work by hand: those marked *, as one list. And those of edition 2 (document 02, change request 5).
+-- Document 01's numbers to work by hand: those marked *, as one list, T = end and start = end as change request 4 of document 02 has them, with the moments
+-- beside them. And those of edition 2 (change request 5).
 -- Assumes nothing.
 use mathlib.Core.List.{List, [], _∷_, _++_}
 use mathlib.Core.Bool.{Bool, true, _&&_}
@@ -90,12 +91,16 @@ starred =
     -- KMAC byte 00: 4; wrong recipient and byte 00: 5
     ∷ (says [] 5 (from2to1 5 0 (be16 1 ++ kStruct 3 4 1 key0 (8 ∷ []))) is (0 ∷ 0 ∷ 1 ∷ 4 ∷ []))
     ∷ (says [] 5 (from2to1 5 0 (be16 1 ++ kStruct 3 4 2 key0 (8 ∷ []))) is (0 ∷ 0 ∷ 1 ∷ 5 ∷ []))
-    -- T = start fits; T = end does not; start = end never fits
+    -- T = start fits; by change request 4 T = end fits too, and start = end fits at that one moment
+    ∷ (finds (holding 4 10 20 (8 ∷ []) ∷ []) 8 9 is (0 ∷ 11 ∷ []))
     ∷ (finds (holding 4 10 20 (8 ∷ []) ∷ []) 8 10 is (1 ∷ []))
-    ∷ (finds (holding 4 10 20 (8 ∷ []) ∷ []) 8 20 is (0 ∷ 11 ∷ []))
+    ∷ (finds (holding 4 10 20 (8 ∷ []) ∷ []) 8 20 is (1 ∷ []))
+    ∷ (finds (holding 4 10 20 (8 ∷ []) ∷ []) 8 21 is (0 ∷ 11 ∷ []))
     ∷ (finds (holding 4 10 10 (8 ∷ []) ∷ []) 8 9 is (0 ∷ 11 ∷ []))
-    ∷ (finds (holding 4 10 10 (8 ∷ []) ∷ []) 8 10 is (0 ∷ 11 ∷ []))
+    ∷ (finds (holding 4 10 10 (8 ∷ []) ∷ []) 8 10 is (1 ∷ []))
     ∷ (finds (holding 4 10 10 (8 ∷ []) ∷ []) 8 11 is (0 ∷ 11 ∷ []))
+    -- and T = FFFFFFFF fits where the end is FFFFFFFF
+    ∷ (finds (holding 4 10 4294967295 (8 ∷ []) ∷ []) 8 4294967295 is (1 ∷ []))
     -- expected 65,535, received 65,535: next expected is 0
     ∷ (expects [] 65535 (from2to1 65535 1 (be16 1 ++ (be32 3 ++ be32 4))) is (0 ∷ []))
     -- length and receiver both wrong: 2

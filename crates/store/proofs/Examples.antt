@@ -7,12 +7,11 @@ use Prim.Native.Nat.{ℕ, zero, suc}
 use lib.ListN.{replicate}
 use lib.Count.{ones, onesIn}
 use Rattle.octets.specs.Bytes.{part, allBelow, allZero}
-use Rattle.octets.specs.Words.{numbers, words, elem}
-use Rattle.refusal.specs.House.{Answer, house, gives}
+use Rattle.octets.specs.Words.{numbers, words}
 use Rattle.store.specs.declared.Limits.{Limits}
-use Rattle.store.specs.Layout.{edition1, edition2, editionOf, editionIn}
+use Rattle.store.specs.Layout.{edition1, edition2}
 use Rattle.store.specs.Store.{Entry, peersOf, header, keyRecord, keyRecords, encode, entries, entriesFrom, sound, allHold, headerOk, countsOk, sumBefore, sumsOk, newKey, uniqueOk, allOdd, parityOk, unusedOk}
-use Rattle.store.specs.Search.{placeWhere, find, findIn}
+use Rattle.store.specs.Search.{placeWhere}
 use Rattle.store.specs.Request.{Request, add, delete, entities, work, result, firstReason, after, done, updateAt}
 
 -- a key with this serial, byte and peers, valid from 5 to 9
@@ -72,15 +71,6 @@ answered =
 requests-answered : answered ≡ (1 ∷ []) ∷ (0 ∷ 3 ∷ []) ∷ (255 ∷ 0 ∷ []) ∷ (0 ∷ 255 ∷ []) ∷ (4 ∷ 5 ∷ []) ∷ []
 unfolding one work result firstReason after done updateAt placeWhere peersOf allOdd allBelow ones onesIn
 requests-answered = refl
-
--- what a search for peer 17 at the moment t answers, in a store with one record of this start and end
-abbrev found : ℕ → ℕ → ℕ → Answer
-found a b t = find (encode edition1 (record { issuer = 1; serial = 2; kmac = replicate 24 1; start = a; end = b; peers = 17 ∷ [] } ∷ [])) 17 t
-
--- T = start fits; T = end does not; start = end never fits
-searched : found 5 9 5 ∷ found 5 9 9 ∷ found 5 5 5 ∷ [] ≡ gives 1 ∷ house 11 ∷ house 11 ∷ []
-unfolding find findIn editionOf editionIn placeWhere elem entries entriesFrom numbers encode header keyRecord keyRecords peersOf words sound allHold headerOk countsOk sumBefore sumsOk newKey uniqueOk allOdd parityOk unusedOk allBelow allZero part ones onesIn
-searched = refl
 
 -- ---- edition 2
 

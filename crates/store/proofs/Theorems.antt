@@ -1,14 +1,15 @@
 -- The claims of specs/Claims.antt.
 -- Assumes nothing.
 use mathlib.Core.Path.{_≡_, refl, sym, ap, subst, _∙_}
-use mathlib.Core.Bool.{Bool, true, false, _&&_}
+use mathlib.Core.Bool.{Bool, true, false}
 use mathlib.Core.List.{List}
 use mathlib.Core.Logic.{_⊎_, inl, inr, ⊎-elim}
-use Prim.Native.Nat.{ℕ, _≤_}
+use Prim.Native.Nat.{ℕ, _<_}
 use native.Mathlib.Omega.{arith}
-use lib.Dec.{leb, ltb}
+use lib.Dec.{ltb, eqb}
 use lib.ListN.{length}
-use borrow.Author.Tests.{leb-true, le-ltb}
+use borrow.Author.Tests.{eq-eqb, ne-eqb, ltb-false, ltb-true}
+use Rattle.octets.proofs.BoolLaws.{between-true, is-between, under, over}
 use Rattle.refusal.specs.House.{house, asks}
 use Rattle.refusal.proofs.Laws.{not-both}
 use Rattle.store.specs.declared.Limits.{Limits}
@@ -16,8 +17,8 @@ use Rattle.store.specs.declared.Edition.{Edition}
 use Rattle.store.specs.declared.Edition.the-variants.{Known, Unknown}
 use Rattle.store.specs.Layout.{edition1, edition2, editionOf}
 use Rattle.store.specs.Store.{encode, entries, sound}
-use Rattle.store.specs.Search.{chosen, placed, findIn, find, emptyIn, emptied}
-use Rattle.store.specs.Claims.{OneStore, HeaderSays, AcceptedSaysEdition, RequestsKeepSound, EmptyPeriodNeverFits, RefusedEmptyWritesNothing, OneAnswer}
+use Rattle.store.specs.Search.{fits, chosen, placed, findIn, find, emptyIn, emptied}
+use Rattle.store.specs.Claims.{OneStore, HeaderSays, AcceptedSaysEdition, RequestsKeepSound, BothEndsFit, ReversedNeverFits, OneMomentFits, EndlessFits, RefusedEmptyWritesNothing, OneAnswer}
 use Rattle.store.proofs.SoundLaws.{Sound, sound-says}
 use Rattle.store.proofs.SearchLaws.{known-edition}
 use Rattle.store.proofs.DecodeLaws.{encode-entries}
@@ -63,12 +64,29 @@ accepted-says-edition = record { of-sound = header-says; of-find = λ s peer t f
 pub requests-keep-sound : RequestsKeepSound
 requests-keep-sound = record { kept = λ L own s b h rs f. work-sound L own s b h rs f }
 
-pub empty-period-never-fits : EmptyPeriodNeverFits
-empty-period-never-fits = record { never = λ start end t h. begun start end t h (leb start t) refl }
+pub both-ends-fit : BothEndsFit
+both-ends-fit = record { fits-then = is-between; only-then = between-true }
+
+pub reversed-never-fits : ReversedNeverFits
+reversed-never-fits = record { never = λ start end t h. go start end t h (ltb t start) refl }
   where
-    begun : (start end t : ℕ) → end ≤ start → (b : Bool) → leb start t ≡ b → b && ltb t end ≡ false
-    begun start end t h true p = le-ltb t end (omega (arith, h, leb-true start t p))
-    begun start end t h false p = refl
+    go : (start end t : ℕ) → end < start → (b : Bool) → ltb t start ≡ b → fits start end t ≡ false
+    go start end t h true p = under start end t (ltb-true t start p)
+    go start end t h false p = over start end t (omega (arith, h, ltb-false t start p))
+
+pub one-moment-fits : OneMomentFits
+one-moment-fits = record { once = λ moment t. go moment t (ltb t moment) (ltb moment t) refl refl }
+  where
+    go : (m t : ℕ) (b c : Bool) → ltb t m ≡ b → ltb m t ≡ c → fits m m t ≡ eqb t m
+    go m t true c p q = let h = ltb-true t m p in under m m t h ∙ sym (ne-eqb t m (λ e. omega (arith, h)))
+    go m t false true p q = let h = ltb-true m t q in over m m t h ∙ sym (ne-eqb t m (λ e. omega (arith, h)))
+    go m t false false p q =
+        let g = ltb-false t m p in
+        let h = ltb-false m t q in
+        is-between m m t g h ∙ sym (eq-eqb t m (omega (arith, g, h)))
+
+pub endless-fits : EndlessFits
+endless-fits = record { always = λ start t h k. is-between start 0xffffffff t h k }
 
 pub refused-empty-writes-nothing : RefusedEmptyWritesNothing
 unfolding emptyIn emptied

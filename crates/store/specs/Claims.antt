@@ -4,7 +4,8 @@ use mathlib.Core.Path.{_≡_}
 use mathlib.Core.Bool.{true, false}
 use mathlib.Core.List.{List}
 use mathlib.Core.Logic.{_⊎_}
-use Prim.Native.Nat.{ℕ, _≤_}
+use Prim.Native.Nat.{ℕ, _≤_, _<_}
+use lib.Dec.{eqb}
 use lib.ListN.{length}
 use Rattle.octets.specs.Bytes.{Bytes, get16}
 use Rattle.refusal.specs.House.{house}
@@ -41,9 +42,22 @@ pub record RequestsKeepSound : Type 0 where
   pub kept : (L : Limits) (own : ℕ) (s : List ℕ) → Bytes s → sound L s ≡ true → (rs : List Request) → AllReadable rs
       → sound L (encode L (work L own rs (entries L s) .left)) ≡ true
 
--- a period that ends at its start or before it fits at no moment
-pub record EmptyPeriodNeverFits : Type 0 where
-  pub never : (start end t : ℕ) → end ≤ start → fits start end t ≡ false
+-- change request 4: a period fits exactly from its start to its end, both included
+pub record BothEndsFit : Type 0 where
+  pub fits-then : (start end t : ℕ) → start ≤ t → t ≤ end → fits start end t ≡ true
+  pub only-then : (start end t : ℕ) → fits start end t ≡ true → (start ≤ t) × (t ≤ end)
+
+-- a period that ends before its start fits at no moment
+pub record ReversedNeverFits : Type 0 where
+  pub never : (start end t : ℕ) → end < start → fits start end t ≡ false
+
+-- a period that ends at its start fits exactly at that moment
+pub record OneMomentFits : Type 0 where
+  pub once : (moment t : ℕ) → fits moment moment t ≡ eqb t moment
+
+-- a period with the end FFFFFFFF has none (000, 4.2.3.4): it fits at every moment of four bytes from its start on
+pub record EndlessFits : Type 0 where
+  pub always : (start t : ℕ) → start ≤ t → t ≤ 0xffffffff → fits start 0xffffffff t ≡ true
 
 -- demand 1: a refused `empty` writes nothing
 pub record RefusedEmptyWritesNothing : Type 0 where

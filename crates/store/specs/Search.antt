@@ -4,7 +4,8 @@ use mathlib.Core.Bool.{Bool, true, false, _&&_}
 use mathlib.Core.List.{List, [], _∷_}
 use Prim.Native.Nat.{ℕ, zero, suc}
 use lib.ListN.{length}
-use lib.Dec.{leb, ltb}
+use lib.Dec.{ltb}
+use Rattle.octets.specs.Bytes.{between}
 use Rattle.octets.specs.Words.{elem}
 use Rattle.refusal.specs.House.{Answer, house, gives, asks, houseNumber}
 use Rattle.store.specs.Layout.{editionOf}
@@ -18,9 +19,9 @@ use Rattle.store.specs.declared.Emptied.the-variants as emptied-as
 
 -- ---- which record is taken
 
--- start ≤ T < end (as 000, 4.2.3.2), the three compared as unsigned numbers
+-- start ≤ T ≤ end (change request 4; 000, 4.2.3.2, leaves the end out), the three compared as unsigned numbers
 abbrev pub fits : ℕ → ℕ → ℕ → Bool
-fits start end t = leb start t && ltb t end
+fits start end t = between start end t
 
 -- the entry has the peer in its list, and fits at the moment T
 abbrev pub serves : ℕ → ℕ → Entry → Bool

@@ -20,7 +20,7 @@ fn fits(start: u32, end: u32, t: u32) -> bool
     if t < start {
         return false;
     }
-    t < end
+    t <= end
 }
 
 // Whether one of the n numbers of four bytes from index i is x.

@@ -100,6 +100,8 @@ fn moments_and_peers(s: &[u8]) {
     found(b"T is 8:", s, PEER, 8);
     found(b"T is end:", s, PEER, 9);
     kmac(b"T is end, the KMAC:", s, PEER, 9);
+    found(b"T is 10:", s, PEER, 10);
+    kmac(b"T is 10, the KMAC:", s, PEER, 10);
     found(b"last byte of the peer:", s, 0x11223345, 5);
     found(b"first byte of the peer:", s, 0x12223344, 5);
 }
@@ -111,9 +113,29 @@ fn one_key(s: &mut [u8]) {
     delete(b"first byte of the issuer:", s, 0x02020304, 1);
 }
 
-fn empty_period(s: &mut [u8]) {
+fn one_moment(s: &mut [u8]) {
     validity(b"from 5 to 5:", s, 1, 5, 5);
+    found(b"start is end, T is 4:", s, PEER, 4);
     found(b"start is end:", s, PEER, 5);
+    found(b"start is end, T is 6:", s, PEER, 6);
+}
+
+fn without_end(s: &mut [u8]) {
+    validity(b"from 9 to FFFFFFFF:", s, 1, 9, 0xffffffff);
+    found(b"without end, T is 8:", s, PEER, 8);
+    found(b"without end, T is FFFFFFFF:", s, PEER, 0xffffffff);
+}
+
+fn reversed(s: &mut [u8]) {
+    validity(b"from 6 to 5:", s, 1, 6, 5);
+    found(b"start after end, T is 5:", s, PEER, 5);
+    found(b"start after end, T is 6:", s, PEER, 6);
+}
+
+fn other_periods(s: &mut [u8]) {
+    one_moment(s);
+    without_end(s);
+    reversed(s);
 }
 
 fn key_for_other() -> Key {
@@ -208,7 +230,7 @@ fn limits(s: &mut [u8]) {
 fn searches(s: &mut [u8]) {
     bad_keys(s);
     one_key(s);
-    empty_period(s);
+    other_periods(s);
     three_keys(s);
     replaced_peers(s);
     first_removed(s);

@@ -101,7 +101,7 @@ impl Both {
         let got = self.library.find(store, peer, t);
         let call = || find_call(store, peer, t);
         named(call, || numbers("answer", answer.into(), got?.into()))?;
-        self.seen.answer_over(store, Call::Find, answer);
+        self.seen.found(store, t, answer);
         Ok(answer)
     }
 

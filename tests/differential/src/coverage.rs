@@ -1,4 +1,4 @@
-//! Which answers were seen over stores of each edition, and which of those that document 01 can
+//! Which answers were seen over stores of each edition, and which of those that the papers can
 //! give were not.
 
 use std::collections::BTreeMap;
@@ -9,7 +9,7 @@ use reference::message::response::UNRECOVERABLE_DATABASE;
 use reference::refusal::{H1, H12};
 use reference::store::{Edition, EDITIONS};
 
-use crate::layout::has_other_header;
+use crate::layout::{has_other_header, held, period};
 use crate::wire::{RESPONSE_AT, RESULTS_AT, TYPE_AT};
 
 #[derive(Clone, Copy, PartialEq, Eq, PartialOrd, Ord, Debug)]
@@ -37,6 +37,10 @@ pub enum Mark {
     Result(u8, u8),
     /// RESPONSE 6 or H12 for a store with the header of the edition that its length is not of.
     HeaderOfOther(Call),
+    /// A search that found a record at its end, which is after its start.
+    FoundAtEnd,
+    /// A search that found a record at its one moment, start and end.
+    FoundAtOneMoment,
     /// A message with other KMACs in the second of two runs.
     OtherKmacs,
     /// A call after which two runs held a key unlike.
@@ -53,6 +57,8 @@ impl fmt::Display for Mark {
             Mark::Response(response) => write!(f, "RESPONSE {response}"),
             Mark::Result(kind, result) => write!(f, "RESULT {result} of type {kind}"),
             Mark::HeaderOfOther(call) => write!(f, "{call:?} with the other header"),
+            Mark::FoundAtEnd => write!(f, "record found at its end"),
+            Mark::FoundAtOneMoment => write!(f, "record found at its one moment"),
             Mark::OtherKmacs => write!(f, "message with other KMACs"),
             Mark::HeldUnlike => write!(f, "key held unlike"),
         }
@@ -104,6 +110,20 @@ impl Coverage {
         self.see(store, mark);
         if mark == Mark::Refused(Call::Find, H12) && has_other_header(store) {
             self.see(store, Mark::HeaderOfOther(call));
+        }
+    }
+
+    /// What `find` answered at a moment. A record that is found because T = end fits is told.
+    pub fn found(&mut self, store: &[u8], t: u32, answer: i32) {
+        self.answer_over(store, Call::Find, answer);
+        let place = usize::try_from(answer).unwrap_or(0);
+        if !(1..=held(store)).contains(&place) {
+            return;
+        }
+        match period(store, place - 1) {
+            [start, end] if start == t && end == t => self.see(store, Mark::FoundAtOneMoment),
+            [_, end] if end == t => self.see(store, Mark::FoundAtEnd),
+            _ => {}
         }
     }
 
@@ -189,6 +209,7 @@ fn of_sound_stores() -> Vec<Seen> {
     let over_stores = [
         answers(Call::Receive, &[2, 3, 4, 5]),
         answers(Call::Find, &[11]),
+        vec![Mark::FoundAtEnd, Mark::FoundAtOneMoment],
         vec![Mark::Opened, Mark::Ended],
         responses.to_vec(),
         results(kind::ADD_KEYS, &[0, 2, 3, 4, 5, 255]),
@@ -243,6 +264,8 @@ pub fn of_units() -> Vec<Seen> {
 #[cfg(test)]
 mod tests {
     use super::{of_pairs, of_sessions, of_units, Call, Coverage, Mark};
+    use crate::random::Random;
+    use crate::stores::Names;
     use reference::store::{encode, EDITIONS, EDITION_1, EDITION_2};
 
     #[test]
@@ -323,6 +346,27 @@ mod tests {
             (Some(1), Mark::Refused(Call::Find, 12)),
         ];
         assert_eq!(marks, expected);
+    }
+
+    #[test]
+    fn a_record_found_at_its_end_is_told() {
+        let mut random = Random::new(1);
+        let names = Names::new(EDITION_2, &mut random);
+        let mut entries = names.entries(&mut random, 2, 1);
+        (entries[0].start, entries[0].end) = (3, 5);
+        (entries[1].start, entries[1].end) = (5, 5);
+        let store = encode(EDITION_2, &entries);
+        let found = |t, answer| {
+            let mut seen = Coverage::default();
+            seen.found(&store, t, answer);
+            seen.0.keys().map(|seen| seen.mark).collect::<Vec<_>>()
+        };
+        let given = Mark::Given(Call::Find);
+        assert_eq!(found(3, 1), [given]);
+        assert_eq!(found(4, 1), [given]);
+        assert_eq!(found(5, 1), [given, Mark::FoundAtEnd]);
+        assert_eq!(found(5, 2), [given, Mark::FoundAtOneMoment]);
+        assert_eq!(found(5, -11), [Mark::Refused(Call::Find, 11)]);
     }
 
     #[test]

@@ -11,6 +11,7 @@ pub const RECORD: usize = 44;
 pub const PEER: usize = 4;
 pub const IDENTIFIER: usize = 8;
 pub const START_IN_RECORD: usize = 32;
+const END_IN_RECORD: usize = 36;
 pub const FIRST_IN_RECORD: usize = 40;
 pub const COUNT_IN_RECORD: usize = 42;
 const KMAC_IN_RECORD: usize = IDENTIFIER;
@@ -69,6 +70,11 @@ pub fn kmac(store: &[u8], place: usize) -> &[u8] {
     &store[kmac_at(place)..kmac_at(place) + KMAC_LENGTH]
 }
 
+/// The start and the end of a record.
+pub fn period(store: &[u8], place: usize) -> [u32; 2] {
+    [START_IN_RECORD, END_IN_RECORD].map(|at| u32_at(store, record_at(place) + at))
+}
+
 /// How many records a store of an edition has, at most as many as it has room for.
 pub fn held(store: &[u8]) -> usize {
     let edition = Edition::of_length(store.len());
@@ -81,18 +87,19 @@ pub fn entry_at(store: &[u8], place: usize) -> Entry {
     let at = record_at(place);
     let peers_at = Edition::of_length(store.len()).map_or(0, |edition| edition.peers_at());
     let first = peers_at + PEER * u16_at(store, at + FIRST_IN_RECORD);
-    let end = first + PEER * u16_at(store, at + COUNT_IN_RECORD);
-    let peers = store.get(first..end).unwrap_or_default();
+    let length = PEER * u16_at(store, at + COUNT_IN_RECORD);
+    let peers = store.get(first..first + length).unwrap_or_default();
     let mut kmac_bytes = [0; KMAC_LENGTH];
     kmac_bytes.copy_from_slice(kmac(store, place));
+    let [start, end] = period(store, place);
     Entry {
         key: KeyIdentifier {
             issuer: u32_at(store, at).to_be_bytes(),
             serial: u32_at(store, at + 4).to_be_bytes(),
         },
         kmac: kmac_bytes,
-        start: u32_at(store, at + START_IN_RECORD),
-        end: u32_at(store, at + START_IN_RECORD + 4),
+        start,
+        end,
         peers: peers
             .chunks_exact(PEER)
             .map(|peer| u32_at(peer, 0).to_be_bytes())

@@ -3,7 +3,7 @@
 //!
 //! First systematic tests over stores of both editions, then rounds of random sequences and of
 //! pairs of runs, each over one edition. It stops at the first difference, and fails too where an
-//! answer that document 01 can give was never seen in one of the editions.
+//! answer that the papers can give was never seen in one of the editions.
 
 mod both;
 mod compare;
@@ -19,6 +19,7 @@ mod limits;
 mod model;
 mod options;
 mod pairs;
+mod periods;
 mod random;
 mod scene;
 mod search;
@@ -88,6 +89,7 @@ impl Tests {
         soundness::all(both, seed)?;
         serials::all(both, seed)?;
         search::all(both, seed)?;
+        periods::all(both, seed)?;
         units::all(both, seed)?;
         for edition in EDITIONS {
             self.pairs.other_parity_is_seen(edition, seed)?;

@@ -122,7 +122,7 @@ impl Pairs {
         let answer_1 = self.library.find(&runs.first.store, peer, t);
         let answer_2 = self.library.find(&runs.second.store, peer, t);
         if let Ok(answer) = answer_1 {
-            self.seen.answer_over(&runs.first.store, Call::Find, answer);
+            self.seen.found(&runs.first.store, t, answer);
         }
         let call = || format!("two runs, {}", find_call(&runs.first.store, peer, t));
         named(call, || {

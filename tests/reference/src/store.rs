@@ -1,4 +1,4 @@
-//! The key store (01, "The key store", "What each request does", "Key search"; 02, change request 5).
+//! The key store (01, "The key store", "What each request does", "Key search"; 02, change requests 4 and 5).
 //!
 //! A store is decoded to a list of entries, the list is edited, and encoded again.
 
@@ -270,12 +270,12 @@ fn peer_sum(entries: &[Entry]) -> usize {
     entries.iter().map(|entry| entry.peers.len()).sum()
 }
 
-/// The place, from 1, of the first record for `peer` with start <= t < end.
+/// The place, from 1, of the first record for `peer` with start <= t <= end (02, change request 4).
 pub fn find(store: &[u8], peer: &Identity, t: u32) -> Result<usize, u8> {
     if Edition::of_length(store.len()).is_none() {
         return Err(H1);
     }
     let entries = decode(store).ok_or(H12)?;
-    let fits = |entry: &Entry| entry.peers.contains(peer) && entry.start <= t && t < entry.end;
+    let fits = |entry: &Entry| entry.peers.contains(peer) && entry.start <= t && t <= entry.end;
     entries.iter().position(fits).map(|i| i + 1).ok_or(H11)
 }

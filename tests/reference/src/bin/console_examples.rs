@@ -17,6 +17,7 @@ const NEXT_RBC: Identity = [0x01, 0x00, 0x01, 0x02];
 const START: [u8; 4] = [0x26, 0x01, 0x01, 0x00];
 const END: [u8; 4] = [0x26, 0x12, 0x31, 0x23];
 const NOON: [u8; 4] = [0x26, 0x11, 0x15, 0x12];
+const HOUR_LATER: [u8; 4] = [0x26, 0x11, 0x15, 0x13];
 
 /// The longest line that the console reads.
 const LINE: usize = 76_100;
@@ -205,20 +206,23 @@ fn updates(session: &mut Session) {
     println!("# At noon on 15 November the first key fits for both radio block centres.");
     search(RBC, NOON);
     search(NEXT_RBC, NOON);
-    println!("# The first key now ends at that moment, which no longer fits; a key 9 is not held (RESULT 1).");
+    println!("# The first key now ends at that moment, its last hour, and still fits for both; a key 9 is not held (RESULT 1).");
     session.send(
         kind::UPDATE_KEY_VALIDITIES,
         &requests(&[until_noon(1), until_noon(9)]),
     );
     search(RBC, NOON);
     search(NEXT_RBC, NOON);
-    println!("# The third key is for the other centre alone.");
+    println!("# An hour later it no longer fits: the third key is taken for the one centre, and none for the other.");
+    search(RBC, HOUR_LATER);
+    search(NEXT_RBC, HOUR_LATER);
+    println!("# The third key is now for the other centre alone.");
     session.send(
         kind::UPDATE_KEY_ENTITIES,
         &requests(&[entities(3, &[NEXT_RBC])]),
     );
-    search(RBC, NOON);
-    search(NEXT_RBC, NOON);
+    search(RBC, HOUR_LATER);
+    search(NEXT_RBC, HOUR_LATER);
     println!("# The first key is deleted: the third moves up to place 1.");
     session.send(kind::DELETE_KEYS, &requests(&[identifier(1)]));
     println!("show");
@@ -403,6 +407,8 @@ fn commands() {
     );
     println!("show");
     search(RBC, NOON);
+    // The first key is in its last hour.
+    search(NEXT_RBC, NOON);
     keys(3);
     keys(0);
     keys(2);

@@ -1,5 +1,5 @@
-//! Prints the worked numbers of sessions and the store (01, and 02, change request 5) as WORKED.md asks, for
-//! comparison line by line.
+//! Prints the worked numbers of sessions and the store (01, and 02, change requests 4 and 5) as WORKED.md asks,
+//! for comparison line by line.
 
 use reference::message::{assemble, kind, response, session_init, HEADER_LENGTH};
 use reference::session::{begin, receive, Answer, Session};
@@ -45,7 +45,7 @@ fn edition_1(store: &mut [u8]) {
     bad_adds(store);
     moments(store);
     near_misses(store);
-    empty_period(store);
+    other_periods(store);
     several_records(store);
     all_deleted(store);
     refused_searches(store);
@@ -121,6 +121,8 @@ fn moments(store: &mut [u8]) {
     search(store, "T is 8", PEER, 8);
     search(store, "T is end", PEER, 9);
     kmac(store, "T is end, the KMAC", PEER, 9);
+    search(store, "T is 10", PEER, 10);
+    kmac(store, "T is 10, the KMAC", PEER, 10);
 }
 
 /// Identities that differ from the right ones in one byte.
@@ -138,9 +140,18 @@ fn near_misses(store: &mut [u8]) {
     request(store, "first byte of the issuer", other_issuer);
 }
 
-fn empty_period(store: &mut [u8]) {
+/// Of one moment, up to the last moment of all, and with the start after the end.
+fn other_periods(store: &mut [u8]) {
     request(store, "from 5 to 5", validity(1, 5, 5));
+    search(store, "start is end, T is 4", PEER, 4);
     search(store, "start is end", PEER, 5);
+    search(store, "start is end, T is 6", PEER, 6);
+    request(store, "from 9 to FFFFFFFF", validity(1, 9, u32::MAX));
+    search(store, "without end, T is 8", PEER, 8);
+    search(store, "without end, T is FFFFFFFF", PEER, u32::MAX);
+    request(store, "from 6 to 5", validity(1, 6, 5));
+    search(store, "start after end, T is 5", PEER, 5);
+    search(store, "start after end, T is 6", PEER, 6);
 }
 
 fn several_records(store: &mut [u8]) {

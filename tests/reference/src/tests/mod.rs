@@ -12,7 +12,7 @@ mod store;
 
 use crate::message::kind;
 use crate::session::{receive, Answer, Session, OPEN};
-use crate::store::{decode, encode, Edition, Entry, KeyIdentifier};
+use crate::store::{decode, encode, find, Edition, Entry, KeyIdentifier, EDITIONS};
 use crate::Identity;
 
 const OWN: Identity = [0x02, 0xe6, 0xa5, 0x4b];
@@ -77,6 +77,26 @@ fn entries(peer_counts: &[usize]) -> Vec<Entry> {
 fn full(edition: Edition) -> Vec<Entry> {
     let peers_each = edition.peers_max / edition.keys_max;
     entries(&vec![peers_each; edition.keys_max])
+}
+
+/// Asserts that a record with this period, alone in a store, is found at the first moments and not at
+/// the others.
+fn assert_fits([start, end]: [u32; 2], at: &[u32], not_at: &[u32]) {
+    let alone = [Entry {
+        start,
+        end,
+        ..entry(1, 1)
+    }];
+    let peer = alone[0].peers[0];
+    for edition in EDITIONS {
+        let store = encode(edition, &alone);
+        for &t in at {
+            assert_eq!(find(&store, &peer, t), Ok(1), "{t:08x}");
+        }
+        for &t in not_at {
+            assert_eq!(find(&store, &peer, t), Err(11), "{t:08x}");
+        }
+    }
 }
 
 /// K-IDENTIFIER (000, 5.3.4.2).

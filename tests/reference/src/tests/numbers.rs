@@ -1,12 +1,12 @@
 //! The numbers of 01, "Numbers to work by hand", at the limits of each edition: where 01 says 64 keys and
-//! 256 peers, edition 2 has 500 and 4,000.
+//! 256 peers, edition 2 has 500 and 4,000. T = end and start = end are as change request 4 has them.
 
-use super::{entries, entry, k_struct, k_struct_for, message, peers, reply, Bench};
+use super::{assert_fits, entries, entry, k_struct, k_struct_for, message, peers, reply, Bench};
 use super::{CENTRE, OWN, RECEIVER_AT};
 use crate::authentication::{check, mac};
 use crate::message::kind;
 use crate::session::{CLOSED, OPEN};
-use crate::store::{encode, find, EDITIONS, EDITION_1};
+use crate::store::{encode, EDITIONS, EDITION_1};
 
 #[test]
 fn empty_store_delete() {
@@ -84,21 +84,12 @@ fn kmac_byte_zero() {
 
 #[test]
 fn moment_against_start_and_end() {
-    for edition in EDITIONS {
-        let mut list = entries(&[1]);
-        (list[0].start, list[0].end) = (100, 200);
-        let peer = list[0].peers[0];
-        let store = encode(edition, &list);
-        assert_eq!(find(&store, &peer, 99), Err(11));
-        assert_eq!(find(&store, &peer, 100), Ok(1));
-        assert_eq!(find(&store, &peer, 199), Ok(1));
-        assert_eq!(find(&store, &peer, 200), Err(11));
-        list[0].end = 100;
-        let store = encode(edition, &list);
-        for t in [99, 100, 101] {
-            assert_eq!(find(&store, &peer, t), Err(11));
-        }
-    }
+    assert_fits([100, 200], &[100, 200], &[99, 201]);
+}
+
+#[test]
+fn start_is_end() {
+    assert_fits([100, 100], &[100], &[99, 101]);
 }
 
 #[test]

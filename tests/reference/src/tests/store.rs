@@ -1,6 +1,6 @@
 //! The two editions, the store's layout, its soundness, the requests and the search.
 
-use super::{entries, entry, full, identifier, kmac, peers, ISSUER, OWN};
+use super::{assert_fits, entries, entry, full, identifier, kmac, peers, ISSUER, OWN};
 use crate::store::{decode, encode, find, work, Edition, Entry, Request};
 use crate::store::{EDITIONS, EDITION_1, EDITION_2};
 
@@ -463,11 +463,14 @@ fn search_gives_the_first_place_that_fits() {
         for entry in &mut list[1..] {
             entry.peers.push(shared);
         }
-        list[1].end = list[1].start;
+        // Where the second ends the third begins: both fit.
+        list[1].end = list[2].start;
         let store = encode(edition, &list);
+        assert_eq!(find(&store, &shared, 0x1003), Ok(2));
         assert_eq!(find(&store, &shared, 0x1004), Ok(3));
-        assert_eq!(find(&store, &shared, 0x2003), Ok(4));
-        assert_eq!(find(&store, &shared, 0x2004), Err(11));
+        assert_eq!(find(&store, &shared, 0x2003), Ok(3));
+        assert_eq!(find(&store, &shared, 0x2004), Ok(4));
+        assert_eq!(find(&store, &shared, 0x2005), Err(11));
         assert_eq!(find(&store, &list[0].peers[0], 0x1004), Ok(1));
     }
 }
@@ -485,16 +488,37 @@ fn search_finds_the_last_record_and_the_last_peer() {
 
 #[test]
 fn search_compares_unsigned() {
-    for edition in EDITIONS {
-        let mut list = entries(&[1]);
-        list[0].start = 0x7fff_ffff;
-        list[0].end = 0xffff_ffff;
-        let store = encode(edition, &list);
-        let peer = list[0].peers[0];
-        assert_eq!(find(&store, &peer, 0x8000_0000), Ok(1));
-        assert_eq!(find(&store, &peer, 0xffff_fffe), Ok(1));
-        assert_eq!(find(&store, &peer, 0xffff_ffff), Err(11));
-        assert_eq!(find(&store, &peer, 0x7fff_fffe), Err(11));
+    let period = [0x7fff_ffff, 0xffff_fffe];
+    let outside = [0, 0x7fff_fffe, 0xffff_ffff];
+    assert_fits(period, &[0x7fff_ffff, 0x8000_0000, 0xffff_fffe], &outside);
+}
+
+#[test]
+fn a_period_with_its_start_after_its_end_never_fits() {
+    for [start, end] in [[200, 100], [101, 100], [u32::MAX, 0]] {
+        let between = end + (start - end) / 2;
+        let moments = [0, end, end + 1, between, start - 1, start, u32::MAX];
+        assert_fits([start, end], &[], &moments);
+    }
+}
+
+#[test]
+fn the_first_and_the_last_moment_of_all_fit() {
+    assert_fits([0, 9], &[0, 9], &[10, u32::MAX]);
+    assert_fits([9, u32::MAX], &[9, u32::MAX], &[0, 8]);
+    assert_fits([0, 0], &[0], &[1, u32::MAX]);
+    assert_fits([u32::MAX; 2], &[u32::MAX], &[0, u32::MAX - 1]);
+}
+
+/// The moments differ from the start or the end in one byte, by one up or down.
+#[test]
+fn all_four_bytes_of_start_and_end_are_compared() {
+    let moment = 0x2080_7f10;
+    for at in 0..4 {
+        let step = 1 << (8 * at);
+        let (below, above) = (moment - step, moment + step);
+        assert_fits([moment, u32::MAX], &[moment, above], &[below]);
+        assert_fits([0, moment], &[below, moment], &[above]);
     }
 }
 
