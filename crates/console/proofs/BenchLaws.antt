@@ -1,8 +1,8 @@
--- The bytes that a line brings.
+-- What a line does: the bytes that it brings, the store and the session keys that are held then, and the line that is read.
 -- Assumes nothing.
 use mathlib.Core.Path.{_≡_, refl, sym, ap, _∙_}
 use mathlib.Core.Bool.{Bool, true, false}
-use mathlib.Core.List.{List, _++_}
+use mathlib.Core.List.{List, [], _∷_, _++_}
 use mathlib.Core.Logic.{⊎-elim}
 use Prim.Native.Nat.{ℕ, _+_, _-_, _≤_, _<_}
 use native.Mathlib.Omega.{arith}
@@ -20,7 +20,9 @@ use Rattle.store.specs.Layout.{total, editionIn, editionOf}
 use Rattle.store.proofs.SearchLaws.{editionOf-says, known-edition}
 use Rattle.lines.specs.Digits.{bytesOf, Puts}
 use Rattle.lines.specs.Words.{word}
-use Rattle.console.specs.Bench.{bytesIn, sizeOf, storeOf, emptyOf, takenIn, storeIn, filledBy, lineBy}
+use Rattle.authentication.specs.Keys.{derived}
+use Rattle.console.specs.Units.{keyedBy, keysBy}
+use Rattle.console.specs.Bench.{bytesIn, sizeOf, storeOf, emptyOf, takenIn, storeIn, largeBy, largeIn, filledBy, lineBy}
 
 -- what is read of word k into an empty buffer
 pub bytes-read : (text w d : List ℕ) (k n : ℕ) → w ≡ word text k → Puts (take (length {A = ℕ} (replicate 38050 0)) (bytesOf w)) (replicate 38050 0) d n → take n d ≡ bytesIn text k
@@ -66,6 +68,14 @@ edition-length n L e =
     (known-edition n L e)
 
 module _ (text w d : List ℕ) (n : ℕ) (e : w ≡ word text 1) (p : Puts (take (length {A = ℕ} (replicate 38050 0)) (bytesOf w)) (replicate 38050 0) d n) where
+  pub large-kept : (large : Bool) → editionOf n ≡ Unknown → large ≡ largeIn text large
+  large-kept large f = sym (ap (λ (x : Edition). largeBy x (length (bytesIn text 1)) large) (ap editionOf (sym (bytes-counted text w d 1 n e p)) ∙ f))
+
+  pub large-taken : (large : Bool) (L : Limits) → editionOf n ≡ Known L → eqb n 38012 ≡ largeIn text large
+  large-taken large L f =
+      let c : n ≡ length (bytesIn text 1) = bytes-counted text w d 1 n e p in
+      ap (λ (k : ℕ). eqb k 38012) c ∙ sym (ap (λ (x : Edition). largeBy x (length (bytesIn text 1)) large) (ap editionOf (sym c) ∙ f))
+
   pub store-kept : (old : List ℕ) → editionOf n ≡ Unknown → old ≡ storeIn text old
   store-kept old f = sym (ap (λ (x : Edition). takenIn x (bytesIn text 1) old) (ap editionOf (sym (bytes-counted text w d 1 n e p)) ∙ f))
 
@@ -97,3 +107,16 @@ line-short line n more h = simp (lt-leb (n + length more) (length line) h)
 
 pub line-fits : (line : List ℕ) (n : ℕ) (more : List ℕ) → n + length more ≤ length line → splice line n more ≡ lineBy line n more
 line-fits line n more h = simp (le-leb (n + length more) (length line) h)
+
+-- ---- the session keys that are held
+
+empty-list : (s : List ℕ) → length s ≡ 0 → s ≡ []
+empty-list [] e = refl
+empty-list (x ∷ s) e = absurd (omega arith)
+
+-- no KMAC, no session keys: those before stay
+pub none-derived : (kmac : List ℕ) (ra rb : ℕ) (keyed : Bool) (keys : List ℕ) → length kmac ≡ 0 → (keyed ≡ keyedBy (derived kmac) keyed) × (keys ≡ keysBy kmac ra rb keys)
+unfolding derived
+none-derived kmac ra rb keyed keys e =
+    let z : [] ≡ kmac = sym (empty-list kmac e) in
+    (ap (λ (x : List ℕ). keyedBy (derived x) keyed) z, ap (λ (x : List ℕ). keysBy x ra rb keys) z)

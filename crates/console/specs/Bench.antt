@@ -1,12 +1,15 @@
 -- What a line leaves at the bench: the session, the store, and the line that is read.
 -- Assumes nothing.
+use mathlib.Core.Path.{_≡_}
 use mathlib.Core.List.{List, []}
 use Prim.Native.Nat.{ℕ, _+_, _%_}
-use lib.Dec.{leb, ltb}
+use lib.Dec.{eqb, leb, ltb}
 use lib.ListN.{length, replicate, take}
 use mathlib.Core.Bool.{Bool, true, false, cond}
 use Rattle.session.specs.declared.Session.{Session}
+use Rattle.session.specs.Sessions.{begin}
 use Rattle.session.specs.Rules.{Outcome, receive}
+use Rattle.runs.specs.Calls.{sessionOf}
 use Rattle.octets.specs.Bytes.{splice}
 use Rattle.store.specs.declared.Limits.{Limits}
 use Rattle.store.specs.declared.Edition.{Edition}
@@ -15,7 +18,12 @@ use Rattle.store.specs.Layout.{total, edition1, edition2, editionOf}
 use Rattle.store.specs.Store.{encode}
 use Rattle.lines.specs.Digits.{bytesOf}
 use Rattle.lines.specs.Words.{word}
+use Rattle.lines.specs.Orders.{orderOf}
+use Rattle.lines.specs.declared.orders.Order.{Order}
+use Rattle.lines.specs.declared.orders.Order.the-variants as order
+use Rattle.authentication.specs.Keys.{derived}
 use Rattle.console.specs.declared.bench.Bench.{Bench}
+use Rattle.console.specs.Units.{soundKmac, keyedBy, keysBy}
 
 -- the output buffer of each call
 abbrev pub output : List ℕ
@@ -62,6 +70,14 @@ takenIn Unknown new old = old
 abbrev pub storeIn : List ℕ → List ℕ → List ℕ
 storeIn text old = takenIn (editionOf (length (bytesIn text 1))) (bytesIn text 1) old
 
+-- and whether edition 2 is held then
+abbrev pub largeBy : Edition → ℕ → Bool → Bool
+largeBy (Known L) n large = eqb n (total edition2)
+largeBy Unknown n large = large
+
+abbrev pub largeIn : List ℕ → Bool → Bool
+largeIn text large = largeBy (editionOf (length (bytesIn text 1))) (length (bytesIn text 1)) large
+
 -- what the message in a line does to the store that is held
 abbrev pub received : Session → List ℕ → Bool → List ℕ → Outcome
 received session text large s = receive session (bytesIn text 1) (storeOf large s) output
@@ -81,3 +97,57 @@ withFilled b n = record { session = b .session; large = b .large; held = b .held
 -- the next line, from its start
 abbrev pub nextLine : Bench → Bench
 nextLine b = record { session = b .session; large = b .large; held = b .held; line = (b .line + 1) % 18446744073709551616; filled = 0; more = b .more }
+
+-- ---- what a line does
+
+-- what is held at the bench: the session, the edition and its store, whether session keys are held, and their bytes
+pub record Held : Type 0 where
+  pub session : Session
+  pub large : Bool
+  pub store : List ℕ
+  pub keyed : Bool
+  pub keys : List ℕ
+
+abbrev pub heldAt : Bench → List ℕ → List ℕ → Held
+heldAt b s k = record { session = b .session; large = b .large; store = storeOf (b .large) s; keyed = b .held; keys = k }
+
+abbrev pub withSession : Session → Held → Held
+withSession e h = record { session = e; large = h .large; store = h .store; keyed = h .keyed; keys = h .keys }
+
+abbrev pub withStore : Bool → List ℕ → Held → Held
+withStore large s h = record { session = h .session; large = large; store = s; keyed = h .keyed; keys = h .keys }
+
+abbrev pub withKeys : Bool → List ℕ → Held → Held
+withKeys keyed k h = record { session = h .session; large = h .large; store = h .store; keyed = keyed; keys = k }
+
+abbrev pub afterMessage : Outcome → Held → Held
+afterMessage o h = withStore (h .large) (o .store) (withSession (o .session) h)
+
+-- what is held once a line was obeyed; begin, message, keys, store, edition and empty change it, and no other order does
+abbrev pub obeyed : Order → List ℕ → Held → Held
+obeyed order.Nothing text h = h
+obeyed order.Note text h = h
+obeyed (order.Begin own peer number) text h = withSession (sessionOf (begin own peer number output) (h .session)) h
+obeyed order.Message text h = afterMessage (receive (h .session) (bytesIn text 1) (h .store) output) h
+obeyed (order.Search peer t) text h = h
+obeyed (order.Keys place ra rb) text h =
+    withKeys (keyedBy (derived (soundKmac (h .store) place)) (h .keyed)) (keysBy (soundKmac (h .store) place) ra rb (h .keys)) h
+obeyed (order.Build destination direction) text h = h
+obeyed (order.Check destination direction) text h = h
+obeyed order.Store text h = withStore (largeIn text (h .large)) (storeIn text (h .store)) h
+obeyed (order.Edition large) text h = withStore large (emptyOf large) h
+obeyed order.Show text h = h
+obeyed order.Empty text h = withStore (h .large) (emptyOf (h .large)) h
+obeyed order.Help text h = h
+obeyed order.Unknown text h = h
+obeyed (order.Bad fault command) text h = h
+
+-- a line that has come to its end, of n bytes: obeyed where it has room for them, else not read
+abbrev pub lineDone : List ℕ → ℕ → Held → Held
+lineDone text n h = cond (ltb (length text) n) h (obeyed (orderOf (take n text)) (take n text) h)
+
+-- the bench r, its buffer t and the keys k are what is held, the line being read that of b
+pub record Leaves (h : Held) (b r : Bench) (t k : List ℕ) : Type 0 where
+  pub bench-is : r ≡ record { session = h .session; large = h .large; held = h .keyed; line = b .line; filled = b .filled; more = b .more }
+  pub store-is : storeOf (h .large) t ≡ h .store
+  pub keys-are : k ≡ h .keys

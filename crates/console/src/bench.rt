@@ -22,7 +22,8 @@ use session::Session;
 ghost use mathlib.Core.Path.{_≡_};
 ghost use Prim.Native.Nat.{_-_, _≤_};
 ghost use lib.ListN.{length};
-ghost use Rattle.console.specs.Bench.{atStart, filledBy, lineBy, withFilled, nextLine};
+ghost use Rattle.lines.specs.Orders.{orderOf};
+ghost use Rattle.console.specs.Bench.{atStart, filledBy, lineBy, withFilled, nextLine, heldAt, obeyed, lineDone, Leaves};
 ghost use Rattle.octets.specs.Bytes.{part};
 
 pub struct Bench {
@@ -62,48 +63,75 @@ impl Bench {
     // What a line asks is done.
     fn obey(mut self, text: &[u8], store: &mut [u8], keys: &mut [u8]) -> Bench
         requires { ⌜ (length (now store) ≡ 38012) × (length (now keys) ≡ 24) ⌝ }
+        ensures { λ r. ⌜ Leaves (obeyed (orderOf (now (text .entry))) (now (text .entry)) (heldAt self (now (store .entry)) (now (keys .entry)))) self r (now (store .exit)) (now (keys .exit)) ⌝ }
     {
         match read(text) {
-            Order::Nothing => {}
-            Order::Note => line(text),
+            Order::Nothing => self,
+            Order::Note => {
+                line(text);
+                self
+            }
             Order::Begin(own, peer, number) => {
                 self.session = begin(self.session, own, peer, number);
+                self
             }
             Order::Message => {
                 self.session = receive(self.session, text, self.large, store);
+                self
             }
-            Order::Search(peer, t) => search(store_of(self.large, store), peer, t),
+            Order::Search(peer, t) => {
+                search(store_of(self.large, store), peer, t);
+                self
+            }
             Order::Keys(place, ra, rb) => {
                 self.held = hold(self.held, store_of(self.large, store), place, ra, rb, keys);
+                self
             }
             Order::Build(destination, direction) => {
                 build(self.held, text, keys, destination, direction);
+                self
             }
             Order::Check(destination, direction) => {
                 check(self.held, text, keys, destination, direction);
+                self
             }
             Order::Store => {
                 self.large = take(self.large, text, store);
+                self
             }
             Order::Edition(large) => {
                 choose(large, store);
                 self.large = large;
+                self
             }
             Order::Show => {
                 held(store_of(self.large, store));
                 shown(self.session);
+                self
             }
-            Order::Empty => empty(self.large, store),
-            Order::Help => help(),
-            Order::Unknown => unknown(self.line),
-            Order::Bad(fault, command) => bad(self.line, fault, command),
+            Order::Empty => {
+                empty(self.large, store);
+                self
+            }
+            Order::Help => {
+                help();
+                self
+            }
+            Order::Unknown => {
+                unknown(self.line);
+                self
+            }
+            Order::Bad(fault, command) => {
+                bad(self.line, fault, command);
+                self
+            }
         }
-        self
     }
 
     // The line has come to its end.
     pub fn end_line(self, text: &[u8], store: &mut [u8], keys: &mut [u8]) -> Bench
         requires { ⌜ (length (now store) ≡ 38012) × (length (now keys) ≡ 24) ⌝ }
+        ensures { λ r. ⌜ Leaves (lineDone (now (text .entry)) (self .filled) (heldAt self (now (store .entry)) (now (keys .entry)))) (nextLine self) r (now (store .exit)) (now (keys .exit)) ⌝ }
     {
         let n = self.filled;
         if text.len() < n {

@@ -13,7 +13,7 @@ use store::editions::edition_of;
 ghost use mathlib.Core.Path.{_≡_};
 ghost use Prim.Native.Nat.{_≤_};
 ghost use lib.ListN.{length};
-ghost use Rattle.console.specs.Bench.{sizeOf, storeOf, storeIn, emptyOf};
+ghost use Rattle.console.specs.Bench.{sizeOf, storeOf, storeIn, largeIn, emptyOf};
 
 // The length of the store that is held.
 pub fn size(large: bool) -> usize
@@ -41,7 +41,7 @@ pub fn search(store: &[u8], peer: u32, t: u32) {
 // Takes the bytes of word 1 for the store, sound or not, where an edition has their length. Answers whether edition 2 is held then.
 pub fn take(large: bool, text: &[u8], store: &mut [u8]) -> bool
     requires { ⌜ length (now store) ≡ 38012 ⌝ }
-    ensures { λ r. ⌜ storeOf r (now (store .exit)) ≡ storeIn (now (text .entry)) (storeOf large (now (store .entry))) ⌝ }
+    ensures { λ r. ⌜ (r ≡ largeIn (now (text .entry)) large) × (storeOf r (now (store .exit)) ≡ storeIn (now (text .entry)) (storeOf large (now (store .entry)))) ⌝ }
 {
     let mut bytes = [0u8; LINE_BYTES];
     let w = word(text, 1);

@@ -18,13 +18,15 @@ ghost use mathlib.Core.Path.{_≡_};
 ghost use mathlib.Core.Bool.{true};
 ghost use lib.ListN.{length};
 ghost use Rattle.runs.specs.Alike.{isSound};
-ghost use Rattle.console.specs.Units.{heldKmac, threeBytes};
+ghost use Rattle.authentication.specs.Keys.{derived};
+ghost use Rattle.console.specs.Units.{heldKmac, soundKmac, keyedBy, keysBy, threeBytes};
 
 // ---- session keys
 
 // Takes the three keys.
 fn keep(keys: &mut [u8], key: [u8; 24])
     requires { ⌜ length (now keys) ≡ 24 ⌝ }
+    ensures { λ _. ⌜ now (keys .exit) ≡ key ⌝ }
 {
     octets::copy(keys, 0, &key, 0, 24);
 }
@@ -32,6 +34,7 @@ fn keep(keys: &mut [u8], key: [u8; 24])
 // Derives session keys of a KMAC, and answers whether session keys are held then.
 fn derive(held: bool, kmac: &[u8], ra: u64, rb: u64, keys: &mut [u8]) -> bool
     requires { ⌜ length (now keys) ≡ 24 ⌝ }
+    ensures { λ r. ⌜ (r ≡ keyedBy (derived (now (kmac .entry))) held) × (now (keys .exit) ≡ keysBy (now (kmac .entry)) ra rb (now (keys .entry))) ⌝ }
 {
     let derived = authentication::session_keys(kmac, des::store(ra), des::store(rb));
     let answer = derived.answer;
@@ -68,6 +71,7 @@ fn kmac_at(s: &[u8], place: usize) -> &[u8]
 // Session keys of the record at a place of the store, and whether session keys are held then.
 pub fn hold(held: bool, s: &[u8], place: usize, ra: u64, rb: u64, keys: &mut [u8]) -> bool
     requires { ⌜ length (now keys) ≡ 24 ⌝ }
+    ensures { λ r. ⌜ (r ≡ keyedBy (derived (soundKmac (now (s .entry)) place)) held) × (now (keys .exit) ≡ keysBy (soundKmac (now (s .entry)) place) ra rb (now (keys .entry))) ⌝ }
 {
     if !is_held(s) {
         line(b"store unsound");

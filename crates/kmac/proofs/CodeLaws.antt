@@ -13,7 +13,7 @@ use mir.Val.{SFits, toZ, ofZ}
 use mir.ValLaws.{toZ-pos, toZ-ofZ}
 use Rattle.octets.specs.Bytes.{between}
 use Rattle.octets.proofs.BoolLaws.{between-true}
-use Rattle.refusal.specs.House.{Answer, house, gives, houseNumber, unlessRefused}
+use Rattle.refusal.specs.House.{Answer, house, gives, houseNumber}
 use Rattle.refusal.specs.declared.Refusal.{Refusal}
 use Rattle.refusal.specs.declared.Refusal.the-variants.{StoreLength, OutputLength, SessionClosed, MessageShort, NoSessionInit, SameIdentity, UnitLength, MacDiffers, UnitContents, DataLength, NoKey, StoreUnsound, KeyLength}
 use Rattle.refusal.proofs.Laws.{asks-gives, gives-number, not-both}
@@ -54,13 +54,6 @@ pub told-refused : {a : Answer} (h : Refusal) (z : ℤ) → z ≡ code (house (h
 told-refused h z q e =
     let n = negative h in
     toZ-ofZ w32 z (subst (λ (x : ℤ). SFits w32 x) (n .is ∙ sym q) (n .fits)) ∙ q ∙ ap code e
-
--- what a buffer holds then: where a call answers, the old bytes do not count
-pub keys-made : {a : Answer} (made none old key : List ℕ) → gives 0 ≡ a → key ≡ unlessRefused a made none → key ≡ unlessRefused a made old
-keys-made made none old key e k = k ∙ ap (λ (x : Answer). unlessRefused x made none) (sym e) ∙ ap (λ (x : Answer). unlessRefused x made old) e
-
-pub keys-kept : {a : Answer} (n : ℕ) (made old : List ℕ) → house n ≡ a → old ≡ unlessRefused a made old
-keys-kept n made old e = ap (λ (x : Answer). unlessRefused x made old) e
 
 -- ---- the answers are small numbers
 

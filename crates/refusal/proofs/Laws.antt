@@ -5,7 +5,7 @@ use mathlib.Core.List.{List, [], _∷_}
 use mathlib.Core.Bool.{Bool, true, false}
 use Prim.Native.Nat.{ℕ, zero, suc}
 use native.Mathlib.Omega.{arith}
-use Rattle.refusal.specs.House.{houseNumber, Answer, house, gives, asks}
+use Rattle.refusal.specs.House.{houseNumber, Answer, house, gives, asks, unlessRefused}
 use Rattle.refusal.specs.declared.Refusal.{Refusal}
 use Rattle.refusal.specs.declared.Refusal.the-variants.{StoreLength, OutputLength, SessionClosed, MessageShort, NoSessionInit, SameIdentity, UnitLength, MacDiffers, UnitContents, DataLength, NoKey, StoreUnsound, KeyLength}
 
@@ -61,3 +61,12 @@ gives-number m n e = cc
 
 pub not-both : {A : Type 0} (m n : ℕ) → house m ≡ gives n → A
 not-both m n e = let z : _≡_ {A = ℕ} 0 1 = cc in absurd (omega arith)
+
+-- ---- what a lent buffer holds then
+
+-- where a call answers, the old bytes do not count
+pub buffer-made : {a : Answer} (made none old key : List ℕ) → gives 0 ≡ a → key ≡ unlessRefused a made none → key ≡ unlessRefused a made old
+buffer-made made none old key e k = k ∙ ap (λ (x : Answer). unlessRefused x made none) (sym e) ∙ ap (λ (x : Answer). unlessRefused x made old) e
+
+pub buffer-kept : {a : Answer} (n : ℕ) (made old : List ℕ) → house n ≡ a → old ≡ unlessRefused a made old
+buffer-kept n made old e = ap (λ (x : Answer). unlessRefused x made old) e

@@ -3,9 +3,10 @@
 use mathlib.Core.Path.{sym, ap, _∙_}
 use lib.ListN.{replicate}
 use Rattle.refusal.specs.House.{houseNumber}
+use Rattle.refusal.proofs.Laws.{buffer-made, buffer-kept}
 use Rattle.authentication.specs.Keys.{derivedAs, sessionKeys}
 use Rattle.kmac.specs.Code.{code}
-use Rattle.kmac.proofs.CodeLaws.{told-refused, keys-made, keys-kept}
+use Rattle.kmac.proofs.CodeLaws.{told-refused}
 use borrow.Author.Needs.{needs}
 use Rattle.kmac.proofs.kmac_session_keys.Statement.{statement}
 use Rattle.kmac.proofs.kmac_session_keys.Tie as tie
@@ -28,7 +29,7 @@ returns c =
     let start = made .before .before .before .before in
     let a = start .args in
     let d = sym (ap derivedAs (c .enum-told .given .1)) ∙ made .session-keys .ensures .said in
-    (ap code d, keys-made (sessionKeys (a .kmac .now) (a .ra .now) (a .rb .now)) (replicate 24 0) (a .keys .now) (made .session-keys .result .key) d (made .session-keys .ensures .made))
+    (ap code d, buffer-made (sessionKeys (a .kmac .now) (a .ra .now) (a .rb .now)) (replicate 24 0) (a .keys .now) (made .session-keys .result .key) d (made .session-keys .ensures .made))
 
 returns-2 : tie.Need-returns-2
 returns-2 c =
@@ -37,7 +38,7 @@ returns-2 c =
     let start = made .before .before .before .before in
     let a = start .args in
     let d = sym (ap derivedAs (h .1)) ∙ made .session-keys .ensures .said in
-    (told-refused (h .0 .0) (c .refused .result) (c .refused .ensures) d, keys-kept (houseNumber (h .0 .0)) (sessionKeys (a .kmac .now) (a .ra .now) (a .rb .now)) (a .keys .now) d)
+    (told-refused (h .0 .0) (c .refused .result) (c .refused .ensures) d, buffer-kept (houseNumber (h .0 .0)) (sessionKeys (a .kmac .now) (a .ra .now) (a .rb .now)) (a .keys .now) d)
 
 pub kmac-session-keys-spec : {M : Type 1} → statement M
 kmac-session-keys-spec =

@@ -3,7 +3,7 @@
 use mathlib.Core.Path.{sym, _∙_}
 use native.Mathlib.Omega.{arith}
 use Rattle.console.specs.Bench.{storeOf}
-use Rattle.console.proofs.BenchLaws.{edition-length, store-kept, store-taken}
+use Rattle.console.proofs.BenchLaws.{edition-length, large-kept, large-taken, store-kept, store-taken}
 use borrow.Author.Needs.{needs}
 use Rattle.console.proofs.stores.take.Statement.{statement}
 use Rattle.console.proofs.stores.take.Tie as tie
@@ -60,9 +60,12 @@ returns c =
     let of = told .before .before in
     let decode = of .before .before in
     let word = decode .before .before in
-    let a = word .before .before .before .args in
-    store-taken (a .text .now) (word .word .result .now) (decode .decode .last .1 .0) (decode .decode .result) (word .word .ensures) (decode .decode .ensures) (storeOf (a .large) (a .store .now)) (a .store .now) (copy .copy .last .0)
-    (told .enum-told .given .0 .0) (sym (of .edition-of .ensures) ∙ told .enum-told .given .1) (copy .copy .ensures)
+    let a = word .before .before .before .args in (
+      large-taken (a .text .now) (word .word .result .now) (decode .decode .last .1 .0) (decode .decode .result) (word .word .ensures) (decode .decode .ensures) (a .large)
+          (told .enum-told .given .0 .0) (sym (of .edition-of .ensures) ∙ told .enum-told .given .1),
+      store-taken (a .text .now) (word .word .result .now) (decode .decode .last .1 .0) (decode .decode .result) (word .word .ensures) (decode .decode .ensures) (storeOf (a .large) (a .store .now)) (a .store .now) (copy .copy .last .0)
+          (told .enum-told .given .0 .0) (sym (of .edition-of .ensures) ∙ told .enum-told .given .1) (copy .copy .ensures),
+    )
 
 returns-2 : tie.Need-returns-2
 returns-2 c =
@@ -70,8 +73,11 @@ returns-2 c =
     let of = told .before .before in
     let decode = of .before .before in
     let word = decode .before .before in
-    let a = word .before .before .before .args in
-    store-kept (a .text .now) (word .word .result .now) (decode .decode .last .1 .0) (decode .decode .result) (word .word .ensures) (decode .decode .ensures) (storeOf (a .large) (a .store .now)) (sym (of .edition-of .ensures) ∙ told .enum-told2 .given .1)
+    let a = word .before .before .before .args in (
+      large-kept (a .text .now) (word .word .result .now) (decode .decode .last .1 .0) (decode .decode .result) (word .word .ensures) (decode .decode .ensures) (a .large)
+          (sym (of .edition-of .ensures) ∙ told .enum-told2 .given .1),
+      store-kept (a .text .now) (word .word .result .now) (decode .decode .last .1 .0) (decode .decode .result) (word .word .ensures) (decode .decode .ensures) (storeOf (a .large) (a .store .now)) (sym (of .edition-of .ensures) ∙ told .enum-told2 .given .1),
+    )
 
 pub take-spec : {M : Type 1} → statement M
 take-spec =
