@@ -20,7 +20,7 @@ static const double QUIET = 0.15; /* the widest spread of a row that is not time
 
 int32_t reference_receive(uint32_t own, uint32_t peer, uint16_t next, uint16_t expected, const uint8_t *message,
                           size_t message_len, uint8_t *store, size_t store_len, uint8_t *out, size_t out_len);
-int32_t reference_find(const uint8_t *store, size_t store_len, uint32_t peer, uint32_t t);
+int32_t reference_find(const uint8_t *store, size_t store_len, uint32_t peer, uint32_t t, uint32_t *end);
 int32_t reference_session_keys(const uint8_t *kmac, const uint8_t *ra, const uint8_t *rb, uint8_t *keys);
 int32_t reference_build(const uint8_t *key, const uint8_t *destination, uint8_t direction, const uint8_t *data,
                         size_t data_len, uint8_t *out, size_t out_len);
@@ -33,6 +33,7 @@ int32_t reference_check(const uint8_t *unit, size_t unit_len, const uint8_t *key
 struct inputs {
     struct worst worst[WORST_COUNT];
     struct worst random, issuers, slot; /* the full store, its keys under other names */
+    struct worst falling, rising;       /* the full store, every record for the searched peer */
     struct worst unsound;               /* by its very last byte, the last that is looked at */
 };
 
@@ -43,6 +44,7 @@ static const uint8_t destination[KMAC_DESTINATION_LEN] = {0xe6, 0xa5, 0x4b};
 
 static struct made {
     int32_t answer;
+    uint32_t end;
     uint8_t out[KMAC_OUT_LEN];
     uint8_t store[KMAC_STORE_2_LEN];
 } made;
@@ -89,6 +91,14 @@ static struct name next_in_slot(struct name name)
     return name;
 }
 
+static uint32_t number_at(const uint8_t *bytes, size_t length)
+{
+    uint32_t number = 0;
+    for (size_t i = 0; i < length; i++)
+        number = number << 8 | bytes[i];
+    return number;
+}
+
 static void put32(uint8_t *to, uint32_t value)
 {
     for (int i = 3; i >= 0; i--, value >>= 8)
@@ -107,7 +117,30 @@ static void rename_keys(struct worst *w, const struct worst *full, struct name (
         put32(record, name.issuer);
         put32(record + 4, name.serial);
     }
-    if (kmac_find(w->store, edition->store_len, worst_peer(edition), worst_moment()) != (int32_t)edition->keys)
+    uint32_t end;
+    if (kmac_find(w->store, edition->store_len, worst_peer(edition), worst_moment(), &end) != (int32_t)edition->keys)
+        abort();
+}
+
+/*
+ * The full store, where the last peer of each record is the one that is searched, so that every record fits, and each ends
+ * later than the one before it, or earlier. The search tries them from the last to the first: with falling ends each is
+ * taken in its turn, and each list is read.
+ */
+static void share_peer(struct worst *w, const struct worst *full, int rising)
+{
+    const struct edition *edition = full->edition;
+    *w = *full;
+    for (unsigned place = 1; place <= edition->keys; place++) {
+        uint8_t *record = w->store + KMAC_KEY_AT(place) - 8;
+        unsigned last = (unsigned)number_at(record + 40, 2) + (unsigned)number_at(record + 42, 2) - 1;
+        put32(record + 36, worst_moment() + (rising ? place : edition->keys - place + 1));
+        put32(w->store + 12 + 44 * (size_t)edition->keys + 4 * (size_t)last, worst_peer(edition));
+    }
+    uint32_t end;
+    int32_t place = rising ? (int32_t)edition->keys : 1;
+    if (kmac_find(w->store, edition->store_len, worst_peer(edition), worst_moment(), &end) != place ||
+        end != worst_moment() + edition->keys)
         abort();
 }
 
@@ -118,6 +151,8 @@ static void prepare_stores(const struct edition *edition, struct inputs *inputs)
     rename_keys(&inputs->random, full, next_random);
     rename_keys(&inputs->issuers, full, next_of_issuers);
     rename_keys(&inputs->slot, full, next_in_slot);
+    share_peer(&inputs->falling, full, 0);
+    share_peer(&inputs->rising, full, 1);
     inputs->unsound = inputs->worst[WORST_ONE_ADD];
     inputs->unsound.store[edition->store_len - 1] = 1;
 }
@@ -163,14 +198,6 @@ static void block_nettle(void) { over_nettle.encipher(key, data, made.out); }
 
 static uint8_t session[KMAC_SESSION_LEN];
 
-static uint32_t number_at(const uint8_t *bytes, size_t length)
-{
-    uint32_t number = 0;
-    for (size_t i = 0; i < length; i++)
-        number = number << 8 | bytes[i];
-    return number;
-}
-
 static void receive_kmac(void)
 {
     const struct message *m = &now->message;
@@ -195,11 +222,11 @@ static void copy_store(void) { memcpy(made.store, now->store, now->edition->stor
 
 static void find_kmac(void)
 {
-    made.answer = kmac_find(now->store, now->edition->store_len, worst_peer(now->edition), worst_moment());
+    made.answer = kmac_find(now->store, now->edition->store_len, worst_peer(now->edition), worst_moment(), &made.end);
 }
 static void find_reference(void)
 {
-    made.answer = reference_find(now->store, now->edition->store_len, worst_peer(now->edition), worst_moment());
+    made.answer = reference_find(now->store, now->edition->store_len, worst_peer(now->edition), worst_moment(), &made.end);
 }
 
 static void self_test(void) { made.answer = kmac_self_test(); }
@@ -237,6 +264,8 @@ static const struct row rows[] = {
     {"find, last peer of 64 keys, random serials", {find_kmac, NULL, NULL, find_reference}, &inputs_1.random},
     {"find, last peer of 64 keys, two issuers", {find_kmac, NULL, NULL, find_reference}, &inputs_1.issuers},
     {"find, last peer of 64 keys, all in one slot", {find_kmac, NULL, NULL, find_reference}, &inputs_1.slot},
+    {"find, all 64 keys fit, ends falling", {find_kmac, NULL, NULL, find_reference}, &inputs_1.falling},
+    {"find, all 64 keys fit, ends rising", {find_kmac, NULL, NULL, find_reference}, &inputs_1.rising},
     {NULL, {receive_kmac, NULL, NULL, receive_reference}, &inputs_1.worst[WORST_DELETES_IN_VAIN]},
     {NULL, {receive_kmac, NULL, NULL, receive_reference}, &inputs_2.worst[WORST_ONE_ADD]},
     {NULL, {receive_kmac, NULL, NULL, receive_reference}, &inputs_2.worst[WORST_ADDS]},
@@ -252,6 +281,8 @@ static const struct row rows[] = {
     {"find, last peer of 500 keys, random serials", {find_kmac, NULL, NULL, find_reference}, &inputs_2.random},
     {"find, last peer of 500 keys, two issuers", {find_kmac, NULL, NULL, find_reference}, &inputs_2.issuers},
     {"find, last peer of 500 keys, all in one slot", {find_kmac, NULL, NULL, find_reference}, &inputs_2.slot},
+    {"find, all 500 keys fit, ends falling", {find_kmac, NULL, NULL, find_reference}, &inputs_2.falling},
+    {"find, all 500 keys fit, ends rising", {find_kmac, NULL, NULL, find_reference}, &inputs_2.rising},
     {"soundness: find, last byte wrong, edition 2", {find_kmac, NULL, NULL, find_reference}, &inputs_2.unsound},
     {"copy of the store, edition 2", {copy_store, NULL, NULL, NULL}, &inputs_2.worst[WORST_DELETES]},
 };

@@ -7,6 +7,14 @@
  *
  * Link with libkmac.a (x86-64, System V calling convention). It needs memmove and memset of C and nothing else.
  *
+ * Header and library go together. A host that was compiled with the header of another version may link all the same, and
+ * what it passes is then not what the library takes. So compile every file that includes kmac.h again when KMAC_VERSION
+ * rises, and check at power-on that kmac_version() is KMAC_VERSION.
+ *
+ *     version 2   kmac_find takes end and writes to it. A host of version 1 lends nothing there: the library would write
+ *                 the end of a key to whatever address stands in the register of the fifth argument.
+ *     version 1   had neither KMAC_VERSION nor kmac_version.
+ *
  *
  * WHAT HOLDS FOR EVERY CALL
  *
@@ -17,11 +25,11 @@
  * Buffers. All memory is the host's, lent for the call and no longer. A length is a number of bytes. A pointer with a
  * length must point to that many bytes; a pointer written as an array, say session[KMAC_SESSION_LEN], to as many as the
  * brackets say. No pointer may be NULL, not even where its length is 0: lend the address of any byte. No alignment is
- * asked.
+ * asked of bytes; end of kmac_find is a uint32_t and aligned as C aligns one.
  *
- * Overlap. A buffer that a call may write (session, out, keys, result, and store where it is not const) must not overlap
- * any other buffer of that call, not by a single byte. Buffers that a call only reads may overlap: a KMAC can be lent as a
- * part of the store. What the library promises is proved for buffers that keep to this, and for no others.
+ * Overlap. A buffer that a call may write (session, out, keys, result, end, and store where it is not const) must not
+ * overlap any other buffer of that call, not by a single byte. Buffers that a call only reads may overlap: a KMAC can be
+ * lent as a part of the store. What the library promises is proved for buffers that keep to this, and for no others.
  *
  * Output buffers. An output buffer has at least KMAC_OUT_LEN bytes. What a call writes stands at its front; the bytes
  * behind it keep their contents.
@@ -79,6 +87,8 @@
 extern "C" {
 #endif
 
+#define KMAC_VERSION 2            /* of this header and its library (above); not the interface version of SUBSET-137 */
+
 /* Lengths in bytes. */
 #define KMAC_STORE_LEN 3852       /* the key store, edition 1 */
 #define KMAC_STORE_KEYS 64        /* keys that it has room for, */
@@ -102,6 +112,7 @@ extern "C" {
  * Stack of each call in bytes: from the caller's stack pointer on, with arguments, return address and glibc's memmove and
  * memset. tests/c/frames bounds it from the machine code, tests/c/stack.c measures it. Rounded up to a multiple of 64.
  */
+#define KMAC_STACK_VERSION 64
 #define KMAC_STACK_SELF_TEST 8128
 #define KMAC_STACK_EMPTY_STORE 64
 #define KMAC_STACK_FIND 1216
@@ -140,19 +151,25 @@ enum kmac_refusal {
 int32_t kmac_empty_store(uint8_t *store, size_t store_len);
 
 /*
- * Searches the key for a peer at the moment t: the first record that has the peer in its list and start <= t <= end, the
- * three compared as unsigned numbers. The end counts: a key fits until the hour that its end names is over. So t is the
- * hour that has begun, its minutes cut off; a host with finer moments moves each end to the last moment of its hour. A key
- * with start = end fits in that one hour, one with start > end never, and one with the end 0xFFFFFFFF from its start on.
- * Beware: SUBSET-137, 4.2.3.2, leaves the end out. A key centre that keeps to that names the hour after the last one, and
- * its keys fit an hour longer than it means; where it lets one key of a peer start when another ends, both fit in that
- * hour, and the first in the store is taken.
+ * Searches the key for a peer at the moment t. A record fits that has the peer in its list and start <= t <= end, the three
+ * compared as unsigned numbers. Of the records that fit, the one with the latest end is taken, the first in the store where
+ * several have it. Its end is the last hour of that key (0xFFFFFFFF: it has none), so that the host can warn the driver. A
+ * key that begins after t is not looked at: one may follow, and a search at a later hour finds it.
+ * The end counts: a key fits until the hour that its end names is over. So t is the hour that has begun, its minutes cut
+ * off; a host with finer moments moves each end to the last moment of its hour. A key with start = end fits in that one
+ * hour, one with start > end never, and one with the end 0xFFFFFFFF from its start on.
+ * Beware: SUBSET-137, 4.2.3.2, leaves the end out. A key centre that keeps to that names the hour after the last one: its
+ * keys fit an hour longer than it means, and the end that is given is an hour late. Where it lets one key of a peer start
+ * when another ends, both fit in that hour, and the one that ends later is taken, as the centre means it.
+ * Where periods of one peer overlap further, which 4.2.4.2 forbids the centre, the peer must choose the same key: no data
+ * unit says which one was meant.
  * Beware also: SUBSET-137, 4.2.3.1, codes a moment with the hour first, and the numbers of that coding are not in the order
  * of time. The host sees to it that periods and t reach the module in a coding whose numbers are.
- * Answers the place of the record, the first being 1; its KMAC stands in the store at KMAC_KEY_AT(place).
- * Refuses H1, H12, H11. Writes nothing.
+ * Answers the place of the record, the first being 1, and writes its end to *end, in the host's byte order; its KMAC stands
+ * in the store at KMAC_KEY_AT(place).
+ * Refuses H1, H12, H11, and then leaves *end as it was.
  */
-int32_t kmac_find(const uint8_t *store, size_t store_len, uint32_t peer, uint32_t t);
+int32_t kmac_find(const uint8_t *store, size_t store_len, uint32_t peer, uint32_t t, uint32_t *end);
 
 /*
  * Where in a store the KMAC of a place starts: from 1 to KMAC_STORE_KEYS, or in edition 2 to KMAC_STORE_2_KEYS. It is valid
@@ -244,6 +261,9 @@ int32_t kmac_check(const uint8_t *unit, size_t unit_len, const uint8_t *key, siz
                    const uint8_t destination[KMAC_DESTINATION_LEN], uint8_t direction);
 
 /* ---- power-on */
+
+/* Answers the version of the library. Where it is not KMAC_VERSION, no other call may be made. */
+int32_t kmac_version(void);
 
 /*
  * The self-test, for power-on. It works the tables of the quick rounds again from the tables that FIPS 46-3 prints, entry

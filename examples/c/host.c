@@ -1,5 +1,5 @@
 /*
- * A small host. A tug takes two keys from its key centre, finds the one for a radio block centre (RBC), and sends it a data
+ * A small host. A tug takes keys from its key centre, finds the one for a radio block centre (RBC), and sends it a data
  * unit; main, at the end, has the order. The key centre's messages come from centre.c; radio, TLS and clock are left out.
  * Prints one line for each step and no key byte. The exit status is 0 only if every answer is as expected.
  */
@@ -14,9 +14,10 @@ enum { RBC = 0x01123456, OTHER_RBC = 0x01123457, TUG = 0x02e6a54b, KEY_CENTRE = 
 
 /*
  * Moments in whole hours, the bytes of SUBSET-137, 4.2.3.1, turned round to year, month, day, hour, so that their numbers
- * stand in the order of time. END is the last hour of the keys; by 4.2.3.2 it would be AFTER_END.
+ * stand in the order of time. END is the last hour of the first two keys, LATER_END of the third; by 4.2.3.2 the end of the
+ * third would be AFTER_END.
  */
-enum { START = 0x26111500, NOON = 0x26111512, END = 0x27111423, AFTER_END = 0x27111500 };
+enum { START = 0x26111500, NOON = 0x26111512, END = 0x27111423, LATER_END = 0x27111523, AFTER_END = 0x27111600 };
 
 /* What the host keeps: two places for the store, of which one counts, and the session. All zero bytes: a closed session. */
 static uint8_t kept[2][KMAC_STORE_LEN];
@@ -43,6 +44,24 @@ static void holds(const char *what, int right)
     printf("%-58s %s\n", what, right ? "yes" : "no");
     if (!right)
         exit(1);
+}
+
+/* ---- the search */
+
+/* A search in the store that counts. A refusal leaves the end as it was. */
+static int32_t find(uint32_t peer, uint32_t t, uint32_t *end)
+{
+    return kmac_find(kept[current], KMAC_STORE_LEN, peer, t, end);
+}
+
+/* Prints the last hour of the key that was found. */
+static void until(uint32_t end, uint32_t expected)
+{
+    printf("%-58s %08x\n", "  until", (unsigned)end);
+    if (end != expected) {
+        printf("expected %08x\n", (unsigned)expected);
+        exit(1);
+    }
 }
 
 /* ---- the key centre's messages */
@@ -87,11 +106,11 @@ static void open_session(struct centre *centre)
 }
 
 /* A key with a pattern for a KMAC. Real keys come from the key centre alone. */
-static struct key example_key(uint32_t serial, const uint32_t *peer)
+static struct key example_key(uint32_t serial, const uint32_t *peer, uint32_t end)
 {
     static const uint8_t odd[] = {0x01, 0x02, 0x04, 0x07, 0x08, 0x0b, 0x0d, 0x0e, 0x10, 0x13, 0x15, 0x16,
                                   0x19, 0x1a, 0x1c, 0x1f, 0x20, 0x23, 0x25, 0x26, 0x29, 0x2a, 0x2c, 0x2f};
-    struct key key = {.issuer = KEY_CENTRE, .serial = serial, .peers = peer, .peer_count = 1, .start = START, .end = END};
+    struct key key = {.issuer = KEY_CENTRE, .serial = serial, .peers = peer, .peer_count = 1, .start = START, .end = end};
     for (size_t i = 0; i < sizeof key.kmac; i++)
         key.kmac[i] = odd[(serial + i) % sizeof odd];
     return key;
@@ -104,7 +123,7 @@ static void take_keys(struct centre *centre)
     struct message message;
     centre_start(centre, &message, CMD_ADD_KEYS);
     for (uint32_t serial = 1; serial <= 2; serial++) {
-        struct key key = example_key(serial, &peers[serial - 1]);
+        struct key key = example_key(serial, &peers[serial - 1], END);
         centre_add(&message, TUG, &key);
     }
     step("add two keys: the length of the reply", receive(&message), 25);
@@ -122,7 +141,7 @@ static void refuse_torn(struct centre *centre)
 {
     uint8_t before[KMAC_STORE_LEN];
     const uint32_t peer = RBC;
-    struct key key = example_key(3, &peer);
+    struct key key = example_key(3, &peer, LATER_END);
     struct message message;
     memcpy(before, kept[current], sizeof before);
     centre_start(centre, &message, CMD_ADD_KEYS);
@@ -133,10 +152,16 @@ static void refuse_torn(struct centre *centre)
     holds("  the store is as before", memcmp(before, kept[current], sizeof before) == 0);
 }
 
-/* The key for the other RBC goes, and the centre ends. */
-static void delete_and_end(struct centre *centre)
+/* The key that was torn comes whole, the one for the other RBC goes, and the centre ends. */
+static void renew_and_end(struct centre *centre)
 {
+    const uint32_t peer = RBC;
+    struct key key = example_key(3, &peer, LATER_END);
     struct message message;
+    centre_start(centre, &message, CMD_ADD_KEYS);
+    centre_add(&message, TUG, &key);
+    step("add the third key: the length of the reply", receive(&message), 24);
+    step("  RESULT", result(0), 0);
     centre_start(centre, &message, CMD_DELETE_KEYS);
     centre_delete(&message, KEY_CENTRE, 1);
     step("delete the first key: the length of the reply", receive(&message), 24);
@@ -153,13 +178,16 @@ static void derive(uint8_t keys[KMAC_KEY_LEN])
 {
     static const uint8_t ra[KMAC_RANDOM_LEN] = {0x11, 0x22, 0x33, 0x44, 0x55, 0x66, 0x77, 0x88};
     static const uint8_t rb[KMAC_RANDOM_LEN] = {0x99, 0xaa, 0xbb, 0xcc, 0xdd, 0xee, 0xff, 0x00};
-    const uint8_t *store = kept[current];
-    step("find a key for the other RBC", kmac_find(store, KMAC_STORE_LEN, OTHER_RBC, NOON), KMAC_H11_NO_KEY);
-    step("find the key for the RBC in its last hour", kmac_find(store, KMAC_STORE_LEN, RBC, END), 1);
-    step("find the key for the RBC, an hour too late", kmac_find(store, KMAC_STORE_LEN, RBC, AFTER_END), KMAC_H11_NO_KEY);
-    int32_t place = kmac_find(store, KMAC_STORE_LEN, RBC, NOON);
-    step("find the key for the RBC: its place", place, 1);
-    step("session keys", kmac_session_keys(store + KMAC_KEY_AT(place), KMAC_KEY_LEN, ra, rb, keys), 0);
+    uint32_t end = 0;
+    step("find a key for the other RBC", find(OTHER_RBC, NOON, &end), KMAC_H11_NO_KEY);
+    holds("  the end is as it was", end == 0);
+    int32_t place = find(RBC, NOON, &end);
+    step("find the key for the RBC, of two the one that ends later", place, 2);
+    until(end, LATER_END);
+    step("find it in its last hour", find(RBC, LATER_END, &end), 2);
+    until(end, LATER_END);
+    step("find one that follows: none, so the driver is warned", find(RBC, AFTER_END, &end), KMAC_H11_NO_KEY);
+    step("session keys", kmac_session_keys(kept[current] + KMAC_KEY_AT(place), KMAC_KEY_LEN, ra, rb, keys), 0);
 }
 
 /* The tug, which called, sends with direction 0 to the RBC, which checks. */
@@ -187,6 +215,7 @@ int main(void)
 {
     struct centre centre = {KEY_CENTRE, TUG, 1, 500};
     uint8_t keys[KMAC_KEY_LEN];
+    holds("the library is of this header's version", kmac_version() == KMAC_VERSION);
     step("self-test at power-on", kmac_self_test(), 0);
     step("make the empty store", kmac_empty_store(kept[current], KMAC_STORE_LEN), 0);
     open_session(&centre);
@@ -194,7 +223,7 @@ int main(void)
     open_session(&centre);
     refuse_torn(&centre);
     open_session(&centre);
-    delete_and_end(&centre);
+    renew_and_end(&centre);
     derive(keys);
     exchange(keys);
     return 0;

@@ -25,7 +25,7 @@ HELD_AT_COMPILE_TIME(KMAC_H13_KEY_LENGTH == -13, "a refusal is the negative of i
 
 static int32_t (*const begin)(uint32_t, uint32_t, uint16_t, uint8_t *, uint8_t *, size_t) = kmac_begin;
 static int32_t (*const receive)(uint8_t *, const uint8_t *, size_t, uint8_t *, size_t, uint8_t *, size_t) = kmac_receive;
-static int32_t (*const find)(const uint8_t *, size_t, uint32_t, uint32_t) = kmac_find;
+static int32_t (*const find)(const uint8_t *, size_t, uint32_t, uint32_t, uint32_t *) = kmac_find;
 static int32_t (*const session_keys)(const uint8_t *, size_t, const uint8_t *, const uint8_t *,
                                      uint8_t *) = kmac_session_keys;
 static int32_t (*const build)(const uint8_t *, size_t, const uint8_t *, uint8_t, const uint8_t *, size_t, uint8_t *,
@@ -35,14 +35,22 @@ static void (*const encipher)(const uint8_t *, const uint8_t *, uint8_t *) = kma
 static void (*const decipher)(const uint8_t *, const uint8_t *, uint8_t *) = kmac_des_decipher;
 static int32_t (*const empty_store)(uint8_t *, size_t) = kmac_empty_store;
 static int32_t (*const self_test)(void) = kmac_self_test;
+static int32_t (*const version)(void) = kmac_version;
 
 static uint8_t store[KMAC_STORE_LEN], store_2[KMAC_STORE_2_LEN + 1], session[KMAC_SESSION_LEN], out[KMAC_OUT_LEN];
 static const uint8_t bytes[KMAC_KEY_LEN] = {0x01, 0x02, 0x04, 0x07, 0x08, 0x0b, 0x0d, 0x0e};
 
+/* A refused search leaves the end as it was. */
+static int find_refuses(const uint8_t *lent, size_t length, int32_t refusal)
+{
+    uint32_t end = 0x1a2b3c4d;
+    return find(lent, length, 1, 1, &end) == refusal && end == 0x1a2b3c4d;
+}
+
 /* No edition has this length: every call that takes a store refuses it. */
 static int length_answers(size_t length)
 {
-    return find(store_2, length, 1, 1) == KMAC_H1_STORE_LENGTH && empty_store(store_2, length) == KMAC_H1_STORE_LENGTH &&
+    return find_refuses(store_2, length, KMAC_H1_STORE_LENGTH) && empty_store(store_2, length) == KMAC_H1_STORE_LENGTH &&
            receive(session, bytes, 0, store_2, length, out, 0) == KMAC_H1_STORE_LENGTH;
 }
 
@@ -55,8 +63,8 @@ static int lengths_answer(void)
 /* The stores are all zero bytes at first: of the right length and unsound. */
 static int store_answers(uint8_t *lent, size_t length)
 {
-    return find(lent, length, 1, 1) == KMAC_H12_STORE_UNSOUND && empty_store(lent, length) == 0 &&
-           find(lent, length, 1, 1) == KMAC_H11_NO_KEY;
+    return find_refuses(lent, length, KMAC_H12_STORE_UNSOUND) && empty_store(lent, length) == 0 &&
+           find_refuses(lent, length, KMAC_H11_NO_KEY);
 }
 
 /* Both stores are empty: with the header of the other edition neither is sound, and either is made empty again. */
@@ -119,7 +127,7 @@ static int des_answers(void)
 
 int main(void)
 {
-    if (!stores_answer() || !unit_answers() || !des_answers() || self_test() != 0) {
+    if (version() != KMAC_VERSION || !stores_answer() || !unit_answers() || !des_answers() || self_test() != 0) {
         puts("a call does not answer as kmac.h says");
         return 1;
     }

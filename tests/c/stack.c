@@ -50,8 +50,9 @@ static void call_receive(void)
 
 static void call_find(void)
 {
+    uint32_t end;
     enter();
-    answer = kmac_find(now.store, now.edition->store_len, worst_peer(now.edition), worst_moment());
+    answer = kmac_find(now.store, now.edition->store_len, worst_peer(now.edition), worst_moment(), &end);
     leave();
 }
 
@@ -96,6 +97,13 @@ static void call_empty_store(void)
 {
     enter();
     answer = kmac_empty_store(now.store, now.edition->store_len);
+    leave();
+}
+
+static void call_version(void)
+{
+    enter();
+    answer = kmac_version();
     leave();
 }
 
@@ -187,6 +195,7 @@ int main(void)
     measure("kmac_check: 1,032 bytes", call_check, &none, KMAC_DATA_MAX, KMAC_STACK_CHECK);
     measure("kmac_des_encipher", call_encipher, &none, 0, KMAC_STACK_DES_ENCIPHER);
     measure("kmac_des_decipher", call_decipher, &none, 0, KMAC_STACK_DES_DECIPHER);
+    measure("kmac_version", call_version, &none, KMAC_VERSION, KMAC_STACK_VERSION);
     measure("kmac_self_test", call_self_test, &none, 0, KMAC_STACK_SELF_TEST);
     return 0;
 }

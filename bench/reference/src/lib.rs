@@ -59,6 +59,8 @@ pub unsafe extern "C" fn reference_receive(
     }
 }
 
+/// The end is written only with a place.
+///
 /// # Safety
 /// `store` points to `store_len` bytes.
 #[no_mangle]
@@ -67,8 +69,13 @@ pub unsafe extern "C" fn reference_find(
     store_len: usize,
     peer: u32,
     t: u32,
+    end: &mut u32,
 ) -> i32 {
-    code(store::find(lent(store, store_len), &peer.to_be_bytes(), t))
+    let found = store::find(lent(store, store_len), &peer.to_be_bytes(), t);
+    if let Ok(found) = found {
+        *end = found.end;
+    }
+    code(found.map(|found| found.place))
 }
 
 /// # Safety

@@ -84,9 +84,11 @@ pub fn reply(s: &[u8]) {
     end();
 }
 
-pub fn place(n: usize) {
+pub fn place(n: usize, until: u32) {
     text(b"place ");
     number(n as u64);
+    text(b" until ");
+    word(until);
     end();
 }
 

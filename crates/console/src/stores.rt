@@ -33,7 +33,7 @@ pub fn store_of(large: bool, store: &[u8]) -> &[u8]
 
 pub fn search(store: &[u8], peer: u32, t: u32) {
     match store::find(store, peer, t) {
-        Found::At(n) => place(n),
+        Found::At(n, until) => place(n, until),
         Found::Refused(h) => refused(h),
     }
 }

@@ -16,15 +16,16 @@ use Rattle.octets.proofs.BoolLaws.{between-true}
 use Rattle.refusal.specs.House.{Answer, house, gives, houseNumber}
 use Rattle.refusal.specs.declared.Refusal.{Refusal}
 use Rattle.refusal.specs.declared.Refusal.the-variants.{StoreLength, OutputLength, SessionClosed, MessageShort, NoSessionInit, SameIdentity, UnitLength, MacDiffers, UnitContents, DataLength, NoKey, StoreUnsound, KeyLength}
-use Rattle.refusal.proofs.Laws.{asks-gives, gives-number, not-both}
+use Rattle.refusal.proofs.Laws.{asks-gives, gives-number}
 use Rattle.store.specs.declared.Edition.{Edition}
 use Rattle.store.specs.declared.Edition.the-variants.{Known, Unknown}
 use Rattle.store.specs.Layout.{editionOf}
-use Rattle.store.specs.Search.{find, findIn}
-use Rattle.store.proofs.SearchLaws.{editionOf-says, find-placed}
+use Rattle.store.specs.Search.{Finding, found, find, findIn}
+use Rattle.store.proofs.SearchLaws.{editionOf-says, not-found, find-placed}
 use Rattle.authentication.specs.Unit.{built, checked}
 use Rattle.authentication.proofs.AnswerLaws.{passed}
-use Rattle.kmac.specs.Code.{code}
+use Rattle.kmac.specs.Code.{code, endAfter}
+use Rattle.kmac.specs.Claims.{RefusedFindLeavesEnd}
 
 -- 0 less the number n is a number of 32 bits, the answer for Hn
 pub record Negative (n : ℕ) : Type 0 where
@@ -57,15 +58,15 @@ told-refused h z q e =
 
 -- ---- the answers are small numbers
 
-pub place-small : (s : List ℕ) (peer t p : ℕ) → find s peer t ≡ gives p → p < 2 ^ 31
+pub place-small : (s : List ℕ) (peer t p until : ℕ) → find s peer t ≡ found p until → p < 2 ^ 31
 unfolding find findIn
-place-small s peer t p e = known (editionOf (length s)) refl e
+place-small s peer t p until e = known (editionOf (length s)) refl e
   where
-    known : (E : Edition) → editionOf (length s) ≡ E → findIn E s peer t ≡ gives p → p < 2 ^ 31
-    known Unknown h q = not-both 1 p q
+    known : (E : Edition) → editionOf (length s) ≡ E → findIn E s peer t ≡ found p until → p < 2 ^ 31
+    known Unknown h q = not-found 1 p until q
     known (Known L) h q =
         let b = editionOf-says (length s) L h in
-        let at = find-placed s peer t p e in
+        let at = find-placed s peer t p until e in
         omega (arith, b .0 .total-fits, b .1)
 
 pub data-small : (unit key destination : List ℕ) (direction : Bool) (n : ℕ) → checked unit key destination direction ≡ gives n → n < 2 ^ 31
@@ -80,3 +81,8 @@ unit-small key user out n e =
     let lent = asks-gives (leb 1032 (length out)) 2 _ n (keyed .1) in
     let few = asks-gives (between 1 1023 (length user)) 10 _ n (lent .1) in
     omega (arith, gives-number (length user + 9) n (few .1), between-true 1 1023 (length user) (few .0) .1)
+
+-- ---- the end that a search writes
+
+pub refused-find-leaves-end : RefusedFindLeavesEnd
+refused-find-leaves-end = record { as-it-was = λ s peer t n before e. ap (λ (f : Finding). endAfter f before) e }

@@ -1,4 +1,5 @@
--- What is claimed of the session buffer beside the contracts. proofs/SessionBufferLaws.antt has a proof of each claim.
+-- What is claimed of the lent session and of the lent end beside the contracts. proofs/SessionBufferLaws.antt has a proof of each claim, but that of the
+-- end, which proofs/CodeLaws.antt has.
 -- Assumes nothing.
 use mathlib.Core.Path.{_≡_}
 use mathlib.Core.List.{List}
@@ -6,9 +7,11 @@ use Prim.Native.Nat.{ℕ, _<_}
 use lib.IntN.{ℤ}
 use lib.ListN.{replicate}
 use Rattle.octets.specs.Bytes.{Bytes}
+use Rattle.store.specs.Search.{unfound, find}
 use Rattle.session.specs.declared.Session.{Session}
 use Rattle.session.specs.Sessions.{Closed, stateOf, closing, begins, refuses, begin}
 use Rattle.session.specs.Rules.{refused, receive}
+use Rattle.kmac.specs.Code.{endAfter}
 use Rattle.kmac.specs.SessionBuffer.{sessionBytes, sessionOf, begunBuffer, sessionAfter, Tells}
 
 -- a session whose fields fit their bytes is read as it was written
@@ -36,3 +39,7 @@ pub record SessionsChain : Type 0 where
       → sessionOf (begunBuffer (begin own peer number out) b) ≡ e
   pub of-refused-begin : (own peer number : ℕ) (out b : List ℕ) (n : ℕ) → begin own peer number out ≡ refuses n
       → sessionOf (begunBuffer (begin own peer number out) b) ≡ sessionOf b
+
+-- demand 1: a refused search leaves the end as it was
+pub record RefusedFindLeavesEnd : Type 0 where
+  pub as-it-was : (s : List ℕ) (peer t n before : ℕ) → find s peer t ≡ unfound n → endAfter (find s peer t) before ≡ before

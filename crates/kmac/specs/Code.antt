@@ -5,10 +5,20 @@ use Prim.Native.Nat.{ℕ, _-_}
 use lib.Dec.{eqb}
 use lib.IntN.{ℤ, pos, negsuc}
 use Rattle.refusal.specs.House.{Answer, house, gives}
+use Rattle.store.specs.Search.{Finding, found, unfound}
+
+-- the version of the C interface; it is not the interface version of 000
+abbrev pub version : ℕ
+version = 2
 
 abbrev pub code : Answer → ℤ
 code (gives n) = pos n
 code (house n) = negsuc (n - 1)
+
+-- what a search leaves where the end is written: the end where there is one; a refusal leaves what stood there
+abbrev pub endAfter : Finding → ℕ → ℕ
+endAfter (found place end) old = end
+endAfter (unfound n) old = old
 
 -- a direction of 0 is 0, and any other byte is 1
 abbrev pub nonzero : ℕ → Bool

@@ -17,21 +17,32 @@ ghost use lib.ListN.{length};
 ghost use Rattle.refusal.specs.House.{house, gives, houseNumber, unlessRefused};
 ghost use Rattle.des.specs.Des.{desEncipher, desDecipher};
 ghost use Rattle.store.specs.Layout.{editionOf};
-ghost use Rattle.store.specs.Search.{find, emptyIn, emptied};
+ghost use Rattle.store.specs.Search.{placeIn, find, emptyIn, emptied};
 ghost use Rattle.authentication.specs.Keys.{derived, sessionKeys};
 ghost use Rattle.authentication.specs.Unit.{built, buffer, unitOf, checked};
 ghost use Rattle.session.specs.Sessions.{begin, beginOutput};
 ghost use Rattle.session.specs.Rules.{receive, receivedAs};
-ghost use Rattle.kmac.specs.Code.{code, nonzero};
+ghost use Rattle.kmac.specs.Code.{version, code, endAfter, nonzero};
 ghost use Rattle.kmac.specs.SessionBuffer.{sessionOf, begunLength, begunBuffer, replyLength, Short, Tells};
 
 mod session_buffer;
+
+// KMAC_VERSION of kmac.h: it rises where a host must be changed or compiled again.
+const VERSION: i32 = 2;
 
 // A refusal as a negative number.
 fn refused(h: Refusal) -> i32
     ensures { λ r. ⌜ r ≡ code (house (houseNumber h)) ⌝ }
 {
     0 - (house_number(h) as i32)
+}
+
+// The version of the library's C interface, for a host to compare with KMAC_VERSION.
+#[no_mangle]
+pub extern "C" fn kmac_version() -> i32
+    ensures { λ r. ⌜ r ≡ code (gives version) ⌝ }
+{
+    VERSION
 }
 
 // The self-test at power-on. It is proved to answer 0: anything else says that the machine is not the one that the proofs are about.
@@ -58,13 +69,17 @@ pub extern "C" fn kmac_des_decipher(key: &[u8; 8], block: &[u8; 8], result: &mut
     *result = des::decipher(*key, *block);
 }
 
-// The place of the key for a peer at the moment t.
+// The place of the key for a peer at the moment t; its end is written where there is one.
 #[no_mangle]
-pub extern "C" fn kmac_find(store: &[u8], peer: u32, t: u32) -> i32
-    ensures { λ r. ⌜ r ≡ code (find (now (store .entry)) peer t) ⌝ }
+pub extern "C" fn kmac_find(store: &[u8], peer: u32, t: u32, end: &mut u32) -> i32
+    ensures { λ r. ⌜ r ≡ code (placeIn (find (now (store .entry)) peer t)) ⌝ }
+    ensures { λ _. ⌜ now («end» .exit) ≡ endAfter (find (now (store .entry)) peer t) (now («end» .entry)) ⌝ }
 {
     match store::find(store, peer, t) {
-        Found::At(n) => n as i32,
+        Found::At(n, e) => {
+            *end = e;
+            n as i32
+        }
         Found::Refused(h) => refused(h),
     }
 }

@@ -1,15 +1,17 @@
 -- Two lists of entries that differ at most in their KMACs, with the tags that say where: what does not see the KMACs, and what a request does to both.
 -- Assumes nothing.
 use mathlib.Core.Path.{_≡_, refl, sym, ap, _∙_}
-use mathlib.Core.Bool.{Bool, true, false, not, cond}
+use mathlib.Core.Bool.{Bool, true, false, not, cond, _&&_}
 use mathlib.Core.List.{List, [], _∷_, _++_}
 use Prim.Native.Nat.{ℕ, suc}
 use lib.ListN.{length}
+use lib.Dec.{leb}
 use borrow.Author.Tests.{not-true, not-false}
 use Rattle.octets.specs.Bytes.{same}
 use Rattle.octets.proofs.BoolLaws.{clash, and-left, and-right, same-refl, same-true}
+use Rattle.store.specs.declared.Choice.{Choice}
 use Rattle.store.specs.Store.{Entry, peersOf}
-use Rattle.store.specs.Search.{pickNumber, placeWhere, serves, chosen}
+use Rattle.store.specs.Search.{pickNumber, placeWhere, oneMore, latest, serves, chosen}
 use Rattle.store.specs.Request.{hasKey, keyPlace, removeAt, updateAt}
 use Rattle.runs.specs.Tally.{Tag, tag, without}
 use Rattle.runs.specs.Secrecy.{Told, told-none, told-more, noneUnlike}
@@ -44,7 +46,10 @@ pub keyPlace-alike : {ts : List Tag} {es es' : List Entry} → (i s : ℕ) → A
 keyPlace-alike i s r = place-alike (hasKey i s) (λ e k. refl) r
 
 pub chosen-alike : {ts : List Tag} {es es' : List Entry} → (peer t : ℕ) → AlikeEntries ts es es' → chosen peer t es ≡ chosen peer t es'
-chosen-alike peer t r = place-alike (serves peer t) (λ e k. refl) r
+unfolding latest
+chosen-alike peer t no-entries = refl
+chosen-alike peer t (one-more e k r) =
+    ap (λ (c : Choice). oneMore (serves peer t e && leb (c .end) (e .end)) (e .end) c) (chosen-alike peer t r)
 
 -- ---- an entry more, one less, one changed
 

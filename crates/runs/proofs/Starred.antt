@@ -7,7 +7,7 @@ use Rattle.octets.specs.Bytes.{part, splice, allZero, same, allBelow}
 use Rattle.octets.specs.Words.{numbers, words, elem}
 use Rattle.store.specs.Layout.{editionIn, editionOf}
 use Rattle.store.specs.Store.{peersOf, header, keyRecord, keyRecords, encode, entriesFrom, entries, allHold, headerOk, countsOk, sumBefore, sumsOk, newKey, uniqueOk, allOdd, parityOk, unusedOk, sound}
-use Rattle.store.specs.Search.{placeWhere, findIn, find}
+use Rattle.store.specs.Search.{placeWhere, latest, findIn, find}
 use Rattle.store.specs.Request.{firstReason, result, done, after, work}
 use Rattle.message.specs.Header.{kindOf}
 use Rattle.message.specs.Body.{sizeAt, fieldsOk, requestAt, fieldsFrom, requestsFrom, requests, bodyOk}
@@ -15,9 +15,9 @@ use Rattle.session.specs.Rules.{respond, firstFailed, verdict, obey, inState, r
 use Rattle.runs.specs.Starred.{hold, starred, larger}
 
 pub starred-hold : hold starred ≡ true
-unfolding hold starred same receive receiveIn editionOf editionIn inState verdict firstFailed obey respond kindOf bodyOk fieldsFrom fieldsOk sizeAt requests requestsFrom requestAt work after result firstReason done placeWhere peersOf encode header keyRecord keyRecords words numbers elem entries entriesFrom sound allHold headerOk countsOk sumsOk sumBefore uniqueOk newKey parityOk allOdd unusedOk allBelow allZero part splice ones find findIn
+unfolding hold starred same receive receiveIn editionOf editionIn inState verdict firstFailed obey respond kindOf bodyOk fieldsFrom fieldsOk sizeAt requests requestsFrom requestAt work after result firstReason done placeWhere peersOf encode header keyRecord keyRecords words numbers elem entries entriesFrom sound allHold headerOk countsOk sumsOk sumBefore uniqueOk newKey parityOk allOdd unusedOk allBelow allZero part splice ones find findIn latest
 starred-hold = refl
 
 pub larger-hold : hold larger ≡ true
-unfolding hold larger same receive receiveIn editionOf editionIn inState verdict firstFailed obey respond kindOf bodyOk fieldsFrom fieldsOk sizeAt requests requestsFrom requestAt work after result firstReason done placeWhere peersOf encode header keyRecord keyRecords words numbers elem entries entriesFrom sound allHold headerOk countsOk sumsOk sumBefore uniqueOk newKey parityOk allOdd unusedOk allBelow allZero part splice ones find findIn
+unfolding hold larger same receive receiveIn editionOf editionIn inState verdict firstFailed obey respond kindOf bodyOk fieldsFrom fieldsOk sizeAt requests requestsFrom requestAt work after result firstReason done placeWhere peersOf encode header keyRecord keyRecords words numbers elem entries entriesFrom sound allHold headerOk countsOk sumsOk sumBefore uniqueOk newKey parityOk allOdd unusedOk allBelow allZero part splice ones find findIn latest
 larger-hold = refl

@@ -6,13 +6,12 @@ use mathlib.Core.List.{List, _∷_, map}
 use Prim.Native.Nat.{ℕ}
 use lib.ListN.{length}
 use Rattle.octets.proofs.BoolLaws.{clash}
-use Rattle.refusal.specs.House.{Answer}
 use Rattle.store.specs.declared.Limits.{Limits}
 use Rattle.store.specs.declared.Edition.{Edition}
 use Rattle.store.specs.declared.Edition.the-variants.{Known, Unknown}
 use Rattle.store.specs.Layout.{editionOf}
 use Rattle.store.specs.Store.{sound}
-use Rattle.store.specs.Search.{find, key}
+use Rattle.store.specs.Search.{Finding, find, key}
 use Rattle.session.specs.declared.Session.{Session}
 use Rattle.session.specs.Sessions.{Beginning, begin, beginOutput}
 use Rattle.session.specs.Rules.{Answered, Outcome, receive}
@@ -57,7 +56,7 @@ run-same (alike-search {cs = cs} {cs' = cs'} peer t r) L ts w w' q v =
     let k : SameRun L cs cs' ts w w' = run-same r L ts w w' q v in
     record {
       seen-is =
-          ap (λ (a : Answer). searched a (length (key s peer t)) ∷ allSeen cs w) (find-same L v peer t)
+          ap (λ (a : Finding). searched a (length (key s peer t)) ∷ allSeen cs w) (find-same L v peer t)
           ∙ ap (λ (n : ℕ). searched (find s' peer t) n ∷ allSeen cs w) (key-size L v peer t)
           ∙ ap (λ (l : List Seen). searched (find s' peer t) (length (key s' peer t)) ∷ l) (k .seen-is);
       session-is = k .session-is;

@@ -7,14 +7,13 @@ use Prim.Native.Nat.{ℕ, zero, suc, _+_, _-_, min}
 use lib.ListN.{length}
 use Rattle.octets.specs.Bytes.{Bytes, part}
 use Rattle.octets.proofs.PartLaws.{part-long}
-use Rattle.refusal.specs.House.{Answer, house, gives}
 use Rattle.store.specs.declared.Limits.{Limits}
 use Rattle.store.specs.declared.Edition.{Edition}
 use Rattle.store.specs.declared.Edition.the-variants.{Known}
 use Rattle.store.specs.Layout.{recordAt, total, Bounded, editionOf}
 use Rattle.store.specs.Store.{Entry, encode, entries, sound}
 use Rattle.store.specs.WellFormed.{WellFormed}
-use Rattle.store.specs.Search.{find, findIn, key, keyOf}
+use Rattle.store.specs.Search.{Finding, found, unfound, find, findIn, key, keyOf}
 use Rattle.store.proofs.DecodeLaws.{encode-entries}
 use Rattle.store.proofs.EncodeLaws.{entries-encode, encode-sound, encode-length}
 use Rattle.store.proofs.SoundLaws.{sound-says, sound-bounded}
@@ -115,11 +114,11 @@ module _ (L : Limits) {ts : List Tag} {s s' : List ℕ} (v : Twins L ts s s') wh
   part-size : (i n : ℕ) → length (part s i n) ≡ length (part s' i n)
   part-size i n = part-long s i n ∙ ap (λ (k : ℕ). min n (k - i)) (twins-differ .same-length) ∙ sym (part-long s' i n)
 
-  keyOf-size : (a : Answer) → length (keyOf a s) ≡ length (keyOf a s')
-  keyOf-size (gives zero) = refl
-  keyOf-size (gives (suc i)) = part-size (recordAt i + 8) 24
-  keyOf-size (house n) = refl
+  keyOf-size : (a : Finding) → length (keyOf a s) ≡ length (keyOf a s')
+  keyOf-size (found zero e) = refl
+  keyOf-size (found (suc i) e) = part-size (recordAt i + 8) 24
+  keyOf-size (unfound n) = refl
 
   pub key-size : (peer t : ℕ) → length (key s peer t) ≡ length (key s' peer t)
   unfolding key
-  key-size peer t = keyOf-size (find s peer t) ∙ ap (λ (a : Answer). length (keyOf a s')) (find-same peer t)
+  key-size peer t = keyOf-size (find s peer t) ∙ ap (λ (a : Finding). length (keyOf a s')) (find-same peer t)

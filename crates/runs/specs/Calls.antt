@@ -3,8 +3,7 @@
 use mathlib.Core.List.{List, [], _∷_}
 use Prim.Native.Nat.{ℕ}
 use lib.ListN.{length, take}
-use Rattle.refusal.specs.House.{Answer}
-use Rattle.store.specs.Search.{find, key}
+use Rattle.store.specs.Search.{Finding, find, key}
 use Rattle.session.specs.declared.Session.{Session}
 use Rattle.session.specs.Sessions.{Beginning, begins, refuses, begin, beginOutput}
 use Rattle.session.specs.Rules.{Answered, reply, opened, ended, refused, receive}
@@ -22,11 +21,12 @@ pub record World : Type 0 where
 
 -- ---- what is seen of a call
 
--- the answer and the output buffer afterwards; of a message the reply bytes too; of the part that a search hands back, the length
+-- the answer (of a search, the place and the end) and the output buffer afterwards; of a message the reply bytes too; of the part that a
+-- search hands back, the length
 pub data Seen : Type 0 where
   begun : (answer : Beginning) → (output : List ℕ) → Seen
   received : (answer : Answered) → (reply output : List ℕ) → Seen
-  searched : (answer : Answer) → (size : ℕ) → Seen
+  searched : (answer : Finding) → (size : ℕ) → Seen
 
 abbrev pub replyOf : Answered → List ℕ → List ℕ
 replyOf (reply n) out = take n out

@@ -27,7 +27,7 @@ tallyOf cs cs' w w' = tally (w .store) (w' .store) (map messageIn cs) (map messa
 
 -- what is alike of two runs
 pub record Alike (cs cs' : List Call) (w w' : World) : Type 0 where
-  -- each call's answer, reply bytes, search place and output buffer are the same
+  -- each call's answer, reply bytes, search place and end, and output buffer are the same
   pub same-seen : allSeen cs w ≡ allSeen cs' w'
   -- the sessions are equal
   pub same-session : final cs w .session ≡ final cs' w' .session

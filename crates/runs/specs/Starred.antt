@@ -1,17 +1,16 @@
 -- Document 01's numbers to work by hand: those marked *, as one list, T = end and start = end as change request 4 of document 02 has them, with the moments
--- beside them. And those of edition 2 (change request 5).
+-- beside them, and what is taken where several keys fit (change request 7). And those of edition 2 (change request 5).
 -- Assumes nothing.
-use mathlib.Core.List.{List, [], _∷_, _++_}
+use mathlib.Core.List.{List, [], _∷_, _++_, reverse}
 use mathlib.Core.Bool.{Bool, true, _&&_}
 use Prim.Native.Nat.{ℕ, _+_}
 use lib.ListN.{length, replicate, drop}
 use Rattle.octets.specs.Bytes.{be16, be32, same}
 use Rattle.octets.specs.Words.{words}
-use Rattle.refusal.specs.House.{Answer, house, gives}
 use Rattle.store.specs.declared.Limits.{Limits}
 use Rattle.store.specs.Layout.{edition1, edition2}
 use Rattle.store.specs.Store.{Entry, encode, header as storeHeader}
-use Rattle.store.specs.Search.{find}
+use Rattle.store.specs.Search.{Finding, found, unfound, find}
 use Rattle.message.specs.Written.{header}
 use Rattle.session.specs.declared.Session.{Session}
 use Rattle.session.specs.Rules.{Outcome, receive}
@@ -40,6 +39,17 @@ key0 = 0 ∷ replicate 23 1
 abbrev pub holding : ℕ → ℕ → ℕ → List ℕ → Entry
 holding serial a b peers = record { issuer = 3; serial = serial; kmac = key; start = a; end = b; peers = peers }
 
+-- keys for peer 8, and the third for 7
+abbrev pub several : List Entry
+several =
+    holding 1 1 8 (8 ∷ [])
+    ∷ holding 2 1 9 (8 ∷ [])
+    ∷ holding 3 1 20 (7 ∷ [])
+    ∷ holding 4 2 9 (8 ∷ [])
+    ∷ holding 5 9 30 (8 ∷ [])
+    ∷ holding 6 0 0 (8 ∷ [])
+    ∷ []
+
 -- ---- what comes back
 
 abbrev pub outcome : List ℕ → ℕ → List ℕ → Outcome
@@ -55,13 +65,16 @@ says es n m = saysOn (encode edition1 es) n m
 abbrev pub expects : List Entry → ℕ → List ℕ → List ℕ
 expects es n m = outcome (encode edition1 es) n m .session .expected ∷ []
 
--- the place, or 0 and the refusal's number
-abbrev pub placeOf : Answer → List ℕ
-placeOf (gives n) = n ∷ []
-placeOf (house n) = 0 ∷ n ∷ []
+-- the place and the end, or 0 and the refusal's number
+abbrev pub numbersOf : Finding → List ℕ
+numbersOf (found place end) = place ∷ end ∷ []
+numbersOf (unfound n) = 0 ∷ n ∷ []
+
+abbrev pub findsOn : List ℕ → ℕ → ℕ → List ℕ
+findsOn s peer t = numbersOf (find s peer t)
 
 abbrev pub finds : List Entry → ℕ → ℕ → List ℕ
-finds es peer t = placeOf (find (encode edition1 es) peer t)
+finds es peer t = findsOn (encode edition1 es) peer t
 
 -- ---- the list
 
@@ -93,14 +106,21 @@ starred =
     ∷ (says [] 5 (from2to1 5 0 (be16 1 ++ kStruct 3 4 2 key0 (8 ∷ []))) is (0 ∷ 0 ∷ 1 ∷ 5 ∷ []))
     -- T = start fits; by change request 4 T = end fits too, and start = end fits at that one moment
     ∷ (finds (holding 4 10 20 (8 ∷ []) ∷ []) 8 9 is (0 ∷ 11 ∷ []))
-    ∷ (finds (holding 4 10 20 (8 ∷ []) ∷ []) 8 10 is (1 ∷ []))
-    ∷ (finds (holding 4 10 20 (8 ∷ []) ∷ []) 8 20 is (1 ∷ []))
+    ∷ (finds (holding 4 10 20 (8 ∷ []) ∷ []) 8 10 is (1 ∷ 20 ∷ []))
+    ∷ (finds (holding 4 10 20 (8 ∷ []) ∷ []) 8 20 is (1 ∷ 20 ∷ []))
     ∷ (finds (holding 4 10 20 (8 ∷ []) ∷ []) 8 21 is (0 ∷ 11 ∷ []))
     ∷ (finds (holding 4 10 10 (8 ∷ []) ∷ []) 8 9 is (0 ∷ 11 ∷ []))
-    ∷ (finds (holding 4 10 10 (8 ∷ []) ∷ []) 8 10 is (1 ∷ []))
+    ∷ (finds (holding 4 10 10 (8 ∷ []) ∷ []) 8 10 is (1 ∷ 10 ∷ []))
     ∷ (finds (holding 4 10 10 (8 ∷ []) ∷ []) 8 11 is (0 ∷ 11 ∷ []))
     -- and T = FFFFFFFF fits where the end is FFFFFFFF
-    ∷ (finds (holding 4 10 4294967295 (8 ∷ []) ∷ []) 8 4294967295 is (1 ∷ []))
+    ∷ (finds (holding 4 10 4294967295 (8 ∷ []) ∷ []) 8 4294967295 is (1 ∷ 4294967295 ∷ []))
+    -- change request 7: of those that fit the latest end, the first of two with it; one that does not fit, or is for another peer, does not count; an end of 0
+    ∷ (finds several 8 5 is (2 ∷ 9 ∷ []))
+    ∷ (finds several 8 9 is (5 ∷ 30 ∷ []))
+    ∷ (finds several 7 5 is (3 ∷ 20 ∷ []))
+    ∷ (finds several 8 0 is (6 ∷ 0 ∷ []))
+    -- in another order the same end, at another place
+    ∷ (finds (reverse several) 8 5 is (3 ∷ 9 ∷ []))
     -- expected 65,535, received 65,535: next expected is 0
     ∷ (expects [] 65535 (from2to1 65535 1 (be16 1 ++ (be32 3 ++ be32 4))) is (0 ∷ []))
     -- length and receiver both wrong: 2
@@ -131,18 +151,18 @@ larger =
     ∷ (saysOn (encode edition2 (holding 4 1 2 (replicate 3990 8) ∷ holding 5 1 2 (replicate 10 8) ∷ [])) 5 (replaces (replicate 10 9)) is (0 ∷ 0 ∷ 1 ∷ 0 ∷ []))
     ∷ (saysOn (encode edition2 (holding 4 1 2 (replicate 3990 8) ∷ holding 5 1 2 (replicate 10 8) ∷ [])) 5 (replaces (replicate 11 9)) is (0 ∷ 0 ∷ 1 ∷ 255 ∷ []))
     -- a search
-    ∷ (placeOf (find (encode edition2 (holding 4 10 20 (8 ∷ []) ∷ [])) 8 10) is (1 ∷ []))
+    ∷ (findsOn (encode edition2 several) 8 5 is (2 ∷ 9 ∷ []))
     -- the header of edition 1 in 38,012 bytes, and of edition 2 in 3,852: 6 and H12
     ∷ (saysOn (headed edition1 edition2) 5 (adds (8 ∷ [])) is (6 ∷ 0 ∷ 0 ∷ []))
     ∷ (saysOn (headed edition2 edition1) 5 (adds (8 ∷ [])) is (6 ∷ 0 ∷ 0 ∷ []))
-    ∷ (placeOf (find (headed edition1 edition2) 8 1) is (0 ∷ 12 ∷ []))
-    ∷ (placeOf (find (headed edition2 edition1) 8 1) is (0 ∷ 12 ∷ []))
+    ∷ (findsOn (headed edition1 edition2) 8 1 is (0 ∷ 12 ∷ []))
+    ∷ (findsOn (headed edition2 edition1) 8 1 is (0 ∷ 12 ∷ []))
     -- delete all there: the empty store of the edition whose length the buffer has
     ∷ (outcome (headed edition1 edition2) 5 deletesAll .store is encode edition2 [])
     ∷ (outcome (headed edition2 edition1) 5 deletesAll .store is encode edition1 [])
     -- a byte less, and a byte more: H1
-    ∷ (placeOf (find (drop 1 (encode edition1 [])) 8 1) is (0 ∷ 1 ∷ []))
-    ∷ (placeOf (find (0 ∷ encode edition1 []) 8 1) is (0 ∷ 1 ∷ []))
-    ∷ (placeOf (find (drop 1 (encode edition2 [])) 8 1) is (0 ∷ 1 ∷ []))
-    ∷ (placeOf (find (0 ∷ encode edition2 []) 8 1) is (0 ∷ 1 ∷ []))
+    ∷ (findsOn (drop 1 (encode edition1 [])) 8 1 is (0 ∷ 1 ∷ []))
+    ∷ (findsOn (0 ∷ encode edition1 []) 8 1 is (0 ∷ 1 ∷ []))
+    ∷ (findsOn (drop 1 (encode edition2 [])) 8 1 is (0 ∷ 1 ∷ []))
+    ∷ (findsOn (0 ∷ encode edition2 []) 8 1 is (0 ∷ 1 ∷ []))
     ∷ []

@@ -6,6 +6,8 @@ pub mod EncodeLaws
 pub mod WellFormedLaws
 pub mod RequestLaws
 pub mod SearchLaws
+pub mod LatestLaws
+pub mod FindLaws
 pub mod EmptyLaws
 pub mod AnswerLaws
 pub mod Examples

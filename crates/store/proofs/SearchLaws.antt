@@ -12,11 +12,10 @@ use lib.ListN.{length}
 use lib.Dec.{eqb, ltb}
 use borrow.Author.Tests.{eqb-true, lt-ltb, le-ltb, ltb-true}
 use Rattle.octets.specs.Bytes.{Bytes, part}
-use Rattle.refusal.specs.House.{Answer, house, gives, asks}
-use Rattle.refusal.proofs.Laws.{not-both}
 use Rattle.store.specs.Layout.{total, Bounded, edition1, edition2, editions, pickEdition, editionIn, editionOf}
 use Rattle.store.specs.Store.{Entry, entries, entriesFrom, entryAt, keyCount, first, count, peerCount, sumBefore, sound}
-use Rattle.store.specs.Search.{pickNumber, placeWhere, chosen, placed, findIn, find, keyOf, key}
+use Rattle.store.specs.Search.{pickNumber, placeWhere, chosen, Finding, found, unfound, orElse, placed, findIn, find, keyOf, key}
+use Rattle.store.specs.declared.Choice.{Choice}
 use Rattle.store.specs.declared.Limits.{Limits}
 use Rattle.store.specs.declared.Edition.{Edition}
 use Rattle.store.specs.declared.Edition.the-variants.{Known, Unknown}
@@ -114,21 +113,48 @@ place-start p L s n e =
 
 -- ---- find
 
+pub not-found : {A : Type 0} (m p e : ℕ) → unfound m ≡ found p e → A
+not-found m p e q = let z : _≡_ {A = ℕ} 0 1 = cc in absurd (omega arith)
+
 module _ (L : Limits) (s : List ℕ) (peer t : ℕ) where
-  pub find-unsound : sound L s ≡ false → findIn (Known L) s peer t ≡ house 12
+  pub find-unsound : sound L s ≡ false → findIn (Known L) s peer t ≡ unfound 12
   unfolding findIn
   find-unsound h = rw h
 
-  module _ (h : sound L s ≡ true) (i : ℕ) (e : i ≡ chosen peer t (entries L s)) where
-    opened : findIn (Known L) s peer t ≡ placed i (keyCount s)
+  module _ (h : sound L s ≡ true) (c : Choice) (e : c ≡ chosen peer t (entries L s)) where
+    opened : findIn (Known L) s peer t ≡ placed c (keyCount s)
     unfolding findIn
-    opened = rw h (ap (λ (x : ℕ). placed x (length (entries L s))) (sym e) ∙ ap (placed i) (entries-length L s))
+    opened = rw h (ap (λ (x : Choice). placed x (length (entries L s))) (sym e) ∙ ap (placed c) (entries-length L s))
 
-    pub find-at : i < keyCount s → findIn (Known L) s peer t ≡ gives (i + 1)
-    find-at l = opened ∙ ap (λ (x : Bool). asks x 11 (gives (suc i))) (lt-ltb i (keyCount s) l) ∙ ap gives (sym (add-one i))
+    pub find-at : c .place < keyCount s → findIn (Known L) s peer t ≡ found (c .place + 1) (c .end)
+    find-at l = opened ∙ ap (λ (x : Bool). orElse x 11 (found (suc (c .place)) (c .end))) (lt-ltb (c .place) (keyCount s) l) ∙ ap (λ (x : ℕ). found x (c .end)) (sym (add-one (c .place)))
 
-    pub find-none : keyCount s ≤ i → findIn (Known L) s peer t ≡ house 11
-    find-none l = opened ∙ ap (λ (x : Bool). asks x 11 (gives (suc i))) (le-ltb i (keyCount s) l)
+    pub find-none : keyCount s ≤ c .place → findIn (Known L) s peer t ≡ unfound 11
+    find-none l = opened ∙ ap (λ (x : Bool). orElse x 11 (found (suc (c .place)) (c .end))) (le-ltb (c .place) (keyCount s) l)
+
+-- what find gives of a store of a known edition is the choice among the entries of a sound store
+pub record FoundIn (L : Limits) (s : List ℕ) (peer t p until : ℕ) : Type 0 where
+  pub is-sound : sound L s ≡ true
+  pub place-is : suc (chosen peer t (entries L s) .place) ≡ p
+  pub end-is : chosen peer t (entries L s) .end ≡ until
+  pub inside : chosen peer t (entries L s) .place < length (entries L s)
+
+module _ (L : Limits) (s : List ℕ) (peer t p until : ℕ) where
+  abbrev choice : Choice
+  choice = chosen peer t (entries L s)
+
+  at-place : (b : Bool) → sound L s ≡ true → ltb (choice .place) (length (entries L s)) ≡ b → orElse b 11 (found (suc (choice .place)) (choice .end)) ≡ found p until
+      → FoundIn L s peer t p until
+  at-place true h l q = record { is-sound = h; place-is = cc; end-is = cc; inside = ltb-true (choice .place) (length (entries L s)) l }
+  at-place false h l q = not-found 11 p until q
+
+  pub found-in : findIn (Known L) s peer t ≡ found p until → FoundIn L s peer t p until
+  unfolding findIn
+  found-in = soundly (sound L s) refl
+    where
+      soundly : (b : Bool) → sound L s ≡ b → orElse b 12 (placed choice (length (entries L s))) ≡ found p until → FoundIn L s peer t p until
+      soundly true h q = at-place (ltb (choice .place) (length (entries L s))) h refl q
+      soundly false h q = not-found 12 p until q
 
 -- the place that find gives lies in the store, and the key stands there
 pub record Placed (s : List ℕ) (peer t p : ℕ) : Type 0 where
@@ -136,39 +162,30 @@ pub record Placed (s : List ℕ) (peer t p : ℕ) : Type 0 where
   pub inside : 12 + 44 * (p - 1) + 44 ≤ length s
   pub key-is : key s peer t ≡ part s (12 + 44 * (p - 1) + 8) 24
 
-module _ (s : List ℕ) (peer t p : ℕ) where
-  key-at : (i : ℕ) → suc i ≡ p → keyOf (gives p) s ≡ part s (12 + 44 * (p - 1) + 8) 24
+module _ (s : List ℕ) (peer t p until : ℕ) where
+  key-at : (i : ℕ) → suc i ≡ p → keyOf (found p until) s ≡ part s (12 + 44 * (p - 1) + 8) 24
   key-at i e =
       let f : i ≡ p - 1 = omega arith in
-      ap (λ (x : ℕ). keyOf (gives x) s) (sym e) ∙ ap (λ (x : ℕ). part s (12 + 44 * x + 8) 24) f
+      ap (λ (x : ℕ). keyOf (found x until) s) (sym e) ∙ ap (λ (x : ℕ). part s (12 + 44 * x + 8) 24) f
 
-  placed-in : (E : Edition) → find s peer t ≡ gives p → findIn E s peer t ≡ gives p → Placed s peer t p
+  placed-in : (E : Edition) → find s peer t ≡ found p until → findIn E s peer t ≡ found p until → Placed s peer t p
   unfolding findIn key
-  placed-in E e = known E
-    where
-      at-place : (L : Limits) (i n : ℕ) (b : Bool) → sound L s ≡ true → n ≡ keyCount s → ltb i n ≡ b → asks b 11 (gives (suc i)) ≡ gives p → Placed s peer t p
-      at-place L i n true h en l q =
-          let w : Sound L s = sound-says L s h in
-          let f : suc i ≡ p = cc in
-          let k : i < n = ltb-true i n l in
-          let nK : keyCount s ≤ L .keys = w .keys-fit in
-          let size : length s ≡ 12 + 44 * L .keys + 4 * L .peers = w .size in
-          record { from-one = omega arith; inside = omega arith; key-is = ap (λ (x : Answer). keyOf x s) e ∙ key-at i f }
-      at-place L i n false h en l q = not-both 11 p q
+  placed-in Unknown e q = not-found 1 p until q
+  placed-in (Known L) e q =
+      let f : FoundIn L s peer t p until = found-in L s peer t p until q in
+      let w : Sound L s = sound-says L s (f .is-sound) in
+      let c : ℕ = chosen peer t (entries L s) .place in
+      let k : c < length (entries L s) = f .inside in
+      let n : length (entries L s) ≡ keyCount s = entries-length L s in
+      let m : suc c ≡ p = f .place-is in
+      let fit : keyCount s ≤ L .keys = w .keys-fit in
+      let size : length s ≡ 12 + 44 * L .keys + 4 * L .peers = w .size in
+      record { from-one = omega arith; inside = omega arith; key-is = ap (λ (x : Finding). keyOf x s) e ∙ key-at c m }
 
-      soundly : (L : Limits) (b : Bool) → sound L s ≡ b → asks b 12 (placed (chosen peer t (entries L s)) (length (entries L s))) ≡ gives p → Placed s peer t p
-      soundly L true h q =
-          at-place L (chosen peer t (entries L s)) (length (entries L s)) (ltb (chosen peer t (entries L s)) (length (entries L s))) h (entries-length L s) refl q
-      soundly L false h q = not-both 12 p q
-
-      known : (E : Edition) → findIn E s peer t ≡ gives p → Placed s peer t p
-      known Unknown q = not-both 1 p q
-      known (Known L) q = soundly L (sound L s) refl q
-
-  pub find-placed : find s peer t ≡ gives p → Placed s peer t p
+  pub find-placed : find s peer t ≡ found p until → Placed s peer t p
   unfolding find
   find-placed e = placed-in _ e e
 
-pub key-none : (s : List ℕ) (peer t n : ℕ) → find s peer t ≡ house n → key s peer t ≡ []
+pub key-none : (s : List ℕ) (peer t n : ℕ) → find s peer t ≡ unfound n → key s peer t ≡ []
 unfolding key
-key-none s peer t n e = ap (λ (x : Answer). keyOf x s) e
+key-none s peer t n e = ap (λ (x : Finding). keyOf x s) e

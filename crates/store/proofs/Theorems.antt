@@ -10,17 +10,18 @@ use lib.Dec.{ltb, eqb}
 use lib.ListN.{length}
 use borrow.Author.Tests.{eq-eqb, ne-eqb, ltb-false, ltb-true}
 use Rattle.octets.proofs.BoolLaws.{between-true, is-between, under, over}
-use Rattle.refusal.specs.House.{house, asks}
+use Rattle.refusal.specs.House.{house}
 use Rattle.refusal.proofs.Laws.{not-both}
 use Rattle.store.specs.declared.Limits.{Limits}
 use Rattle.store.specs.declared.Edition.{Edition}
 use Rattle.store.specs.declared.Edition.the-variants.{Known, Unknown}
 use Rattle.store.specs.Layout.{edition1, edition2, editionOf}
 use Rattle.store.specs.Store.{encode, entries, sound}
-use Rattle.store.specs.Search.{fits, chosen, placed, findIn, find, emptyIn, emptied}
-use Rattle.store.specs.Claims.{OneStore, HeaderSays, AcceptedSaysEdition, RequestsKeepSound, BothEndsFit, ReversedNeverFits, OneMomentFits, EndlessFits, RefusedEmptyWritesNothing, OneAnswer}
+use Rattle.store.specs.Search.{fits, unfound, findIn, find, emptyIn, emptied}
+use Rattle.store.specs.Claims.{OneStore, HeaderSays, AcceptedSaysEdition, RequestsKeepSound, BothEndsFit, ReversedNeverFits, OneMomentFits, EndlessFits, placeless, LatestTaken, NoKeyExactly, OrderKeepsEnd, RefusedEmptyWritesNothing, OneAnswer}
 use Rattle.store.proofs.SoundLaws.{Sound, sound-says}
-use Rattle.store.proofs.SearchLaws.{known-edition}
+use Rattle.store.proofs.SearchLaws.{known-edition, find-unsound}
+use Rattle.store.proofs.FindLaws.{in-sound, found-taken, one-found, none-there, none-found, same-taken}
 use Rattle.store.proofs.DecodeLaws.{encode-entries}
 use Rattle.store.proofs.WellFormedLaws.{sound-wellFormed}
 use Rattle.store.proofs.EncodeLaws.{entries-encode, encode-sound, one-list}
@@ -41,16 +42,15 @@ one-store =
 header-says : (L : Limits) (s : List ℕ) → sound L s ≡ true → HeaderSays L s
 header-says L s h = let w : Sound L s = sound-says L s h in (w .edition-is, w .total-is, w .size)
 
-found-sound : (L : Limits) (s : List ℕ) (peer t : ℕ) → (findIn (Known L) s peer t ≡ house 12 → ⊥) → HeaderSays L s
-unfolding findIn
+found-sound : (L : Limits) (s : List ℕ) (peer t : ℕ) → (findIn (Known L) s peer t ≡ unfound 12 → ⊥) → HeaderSays L s
 found-sound L s peer t f = go (sound L s) refl
   where
     go : (b : Bool) → sound L s ≡ b → HeaderSays L s
     go true h = header-says L s h
-    go false h = absurd (f (ap (λ (b : Bool). asks b 12 (placed (chosen peer t (entries L s)) (length (entries L s)))) h))
+    go false h = absurd (f (find-unsound L s peer t h))
 
-found-edition : (E : Edition) (s : List ℕ) (peer t : ℕ) → ((L : Limits) → E ≡ Known L → (edition1 ≡ L) ⊎ (edition2 ≡ L)) → (findIn E s peer t ≡ house 1 → ⊥)
-    → (findIn E s peer t ≡ house 12 → ⊥) → HeaderSays edition1 s ⊎ HeaderSays edition2 s
+found-edition : (E : Edition) (s : List ℕ) (peer t : ℕ) → ((L : Limits) → E ≡ Known L → (edition1 ≡ L) ⊎ (edition2 ≡ L)) → (findIn E s peer t ≡ unfound 1 → ⊥)
+    → (findIn E s peer t ≡ unfound 12 → ⊥) → HeaderSays edition1 s ⊎ HeaderSays edition2 s
 unfolding findIn
 found-edition Unknown s peer t k f g = absurd (f refl)
 found-edition (Known L) s peer t k f g =
@@ -87,6 +87,21 @@ one-moment-fits = record { once = λ moment t. go moment t (ltb t moment) (ltb m
 
 pub endless-fits : EndlessFits
 endless-fits = record { always = λ start t h k. is-between start 0xffffffff t h k }
+
+pub latest-taken : LatestTaken
+latest-taken = record { taken = found-taken; one-found = one-found }
+
+pub no-key-exactly : NoKeyExactly
+no-key-exactly = record { none-serves = none-there; no-key = none-found }
+
+pub order-keeps-end : OrderKeepsEnd
+order-keeps-end =
+    record {
+      same-end = λ L M s r peer t k l h g there back.
+          ap placeless (in-sound L s peer t k h)
+          ∙ same-taken peer t (entries L s) (entries M r) there back
+          ∙ sym (ap placeless (in-sound M r peer t l g));
+    }
 
 pub refused-empty-writes-nothing : RefusedEmptyWritesNothing
 unfolding emptyIn emptied

@@ -4,19 +4,21 @@ use mathlib.Core.Path.{_≡_}
 use mathlib.Core.Bool.{true, false}
 use mathlib.Core.List.{List}
 use mathlib.Core.Logic.{_⊎_}
-use Prim.Native.Nat.{ℕ, _≤_, _<_}
+use Prim.Native.Nat.{ℕ, _+_, _-_, _≤_, _<_}
 use lib.Dec.{eqb}
-use lib.ListN.{length}
+use lib.ListN.{length, getD}
 use Rattle.octets.specs.Bytes.{Bytes, get16}
+use Rattle.octets.specs.Words.{elem}
 use Rattle.refusal.specs.House.{house}
 use Rattle.store.specs.declared.Limits.{Limits}
+use Rattle.store.specs.declared.Edition.the-variants.{Known}
 use Rattle.store.specs.declared.Found.{Found}
 use Rattle.store.specs.declared.Emptied.{Emptied}
 use Rattle.store.specs.Layout.{Bounded, total, edition1, edition2, editionOf}
 use Rattle.store.specs.Store.{Entry, encode, entries, sound}
-use Rattle.store.specs.Search.{fits, find, foundAs, emptiedAs, emptyIn, emptied}
+use Rattle.store.specs.Search.{fits, serves, Finding, found, unfound, find, key, foundAs, emptiedAs, emptyIn, emptied}
 use Rattle.store.specs.Request.{Request, work}
-use Rattle.store.specs.WellFormed.{WellFormed, AllReadable}
+use Rattle.store.specs.WellFormed.{nobody, WellFormed, AllReadable}
 
 -- a list of entries has one store only, and a sound store one list
 pub record OneStore : Type 0 where
@@ -35,7 +37,7 @@ HeaderSays L s = (get16 s 0 ≡ L .edition) × (get16 s 10 ≡ total L) × (leng
 -- its length nor as unsound
 pub record AcceptedSaysEdition : Type 0 where
   pub of-sound : (L : Limits) (s : List ℕ) → sound L s ≡ true → HeaderSays L s
-  pub of-find : (s : List ℕ) (peer t : ℕ) → (find s peer t ≡ house 1 → ⊥) → (find s peer t ≡ house 12 → ⊥) → HeaderSays edition1 s ⊎ HeaderSays edition2 s
+  pub of-find : (s : List ℕ) (peer t : ℕ) → (find s peer t ≡ unfound 1 → ⊥) → (find s peer t ≡ unfound 12 → ⊥) → HeaderSays edition1 s ⊎ HeaderSays edition2 s
 
 -- every request, whatever its RESULT, keeps a sound store sound, over any list of requests and in any edition
 pub record RequestsKeepSound : Type 0 where
@@ -58,6 +60,59 @@ pub record OneMomentFits : Type 0 where
 -- a period with the end FFFFFFFF has none (000, 4.2.3.4): it fits at every moment of four bytes from its start on
 pub record EndlessFits : Type 0 where
   pub always : (start t : ℕ) → start ≤ t → t ≤ 0xffffffff → fits start 0xffffffff t ≡ true
+
+-- change request 7: what find gives. The store is sound; the entry at this place has the peer, fits at T and has this end; none that serves ends later, and
+-- none before it that serves has the same end; `key` gives its KMAC
+pub record Taken (L : Limits) (s : List ℕ) (peer t place end : ℕ) : Type 0 where
+  pub sound-store : sound L s ≡ true
+  pub from-one : 0 < place
+  pub inside : place ≤ length (entries L s)
+  pub has-peer : elem peer (getD (entries L s) (place - 1) nobody .peers) ≡ true
+  pub it-fits : fits (getD (entries L s) (place - 1) nobody .start) (getD (entries L s) (place - 1) nobody .end) t ≡ true
+  pub its-end : getD (entries L s) (place - 1) nobody .end ≡ end
+  pub none-later : (j : ℕ) → j < length (entries L s) → serves peer t (getD (entries L s) j nobody) ≡ true → getD (entries L s) j nobody .end ≤ end
+  pub first : (j : ℕ) → j + 1 < place → serves peer t (getD (entries L s) j nobody) ≡ true → getD (entries L s) j nobody .end < end
+  pub its-kmac : key s peer t ≡ getD (entries L s) (place - 1) nobody .kmac
+
+pub record IsFound (s : List ℕ) (peer t : ℕ) : Type 0 where
+  pub place : ℕ
+  pub end : ℕ
+  pub given : find s peer t ≡ found place end
+
+pub record LatestTaken : Type 0 where
+  pub taken : (L : Limits) (s : List ℕ) (peer t : ℕ) → editionOf (length s) ≡ Known L → (place end : ℕ) → find s peer t ≡ found place end
+      → Taken L s peer t place end
+  -- and where the store is sound and an entry serves, find gives one
+  pub one-found : (L : Limits) (s : List ℕ) (peer t : ℕ) → editionOf (length s) ≡ Known L → sound L s ≡ true → (j : ℕ) → j < length (entries L s)
+      → serves peer t (getD (entries L s) j nobody) ≡ true → IsFound s peer t
+
+abbrev pub NoneServes : List Entry → ℕ → ℕ → Type 0
+NoneServes es peer t = (j : ℕ) → j < length es → serves peer t (getD es j nobody) ≡ false
+
+-- H11 exactly where the store is sound and no entry serves
+pub record NoKeyExactly : Type 0 where
+  pub none-serves : (L : Limits) (s : List ℕ) (peer t : ℕ) → editionOf (length s) ≡ Known L → find s peer t ≡ unfound 11
+      → (sound L s ≡ true) × NoneServes (entries L s) peer t
+  pub no-key : (L : Limits) (s : List ℕ) (peer t : ℕ) → editionOf (length s) ≡ Known L → sound L s ≡ true → NoneServes (entries L s) peer t
+      → find s peer t ≡ unfound 11
+
+pub record Among (es : List Entry) (e : Entry) : Type 0 where
+  pub place : ℕ
+  pub inside : place < length es
+  pub is-it : getD es place nobody ≡ e
+
+abbrev pub AllAmong : List Entry → List Entry → Type 0
+AllAmong es fs = (i : ℕ) → i < length es → Among fs (getD es i nobody)
+
+-- the answer but for the place
+abbrev pub placeless : Finding → Finding
+placeless (found place end) = found 0 end
+placeless (unfound n) = unfound n
+
+-- the order of the entries does not move the end: two sound stores, of either edition, each with all entries of the other
+pub record OrderKeepsEnd : Type 0 where
+  pub same-end : (L M : Limits) (s r : List ℕ) (peer t : ℕ) → editionOf (length s) ≡ Known L → editionOf (length r) ≡ Known M → sound L s ≡ true
+      → sound M r ≡ true → AllAmong (entries L s) (entries M r) → AllAmong (entries M r) (entries L s) → placeless (find s peer t) ≡ placeless (find r peer t)
 
 -- demand 1: a refused `empty` writes nothing
 pub record RefusedEmptyWritesNothing : Type 0 where

@@ -9,7 +9,7 @@ use editions::edition_of;
 use field::put_number;
 use octets::clear;
 use refusal::Refusal;
-use search::place_of;
+use search::chosen;
 use sound::is_sound;
 ghost use mathlib.Core.Path.{_≡_};
 ghost use mathlib.Core.List.{[]};
@@ -32,10 +32,16 @@ pub enum Edition {
     Unknown,
 }
 
-// What find answers: the record's place, the first being 1.
+// What find answers: the record's place, the first being 1, and its end.
 pub enum Found {
-    At(usize),
+    At(usize, u32),
     Refused(Refusal),
+}
+
+// The place of the record that is taken, counted from 0, and its end; where none is, the number of records, and 0.
+pub struct Choice {
+    pub place: usize,
+    pub end: u32,
 }
 
 // What empty answers.
@@ -53,7 +59,7 @@ pub const KMAC: usize = 24;
 
 pub const PEER: usize = 4;
 
-// The place of the first key for this peer at the moment t, in a store of this edition.
+// The key for this peer at the moment t, in a store of this edition.
 fn find_in(s: &[u8], lim: Limits, peer: u32, t: u32) -> Found
     requires { ⌜ Bounded lim ⌝ }
     ensures { λ r. ⌜ foundAs r ≡ findIn (Edition.Known lim) (now (s .entry)) peer t ⌝ }
@@ -61,15 +67,15 @@ fn find_in(s: &[u8], lim: Limits, peer: u32, t: u32) -> Found
     if !is_sound(s, lim) {
         return Found::Refused(Refusal::StoreUnsound);
     }
-    let i = place_of(s, lim, peer, t);
-    if i < field::number_at(s, 2) {
-        Found::At(i + 1)
+    let c = chosen(s, lim, peer, t);
+    if c.place < field::number_at(s, 2) {
+        Found::At(c.place + 1, c.end)
     } else {
         Found::Refused(Refusal::NoKey)
     }
 }
 
-// The place of the first key for this peer at the moment t.
+// The key for this peer at the moment t: of the records that fit, the first with the latest end.
 pub fn find(s: &[u8], peer: u32, t: u32) -> Found
     ensures { λ r. ⌜ foundAs r ≡ find (now (s .entry)) peer t ⌝ }
 {
@@ -79,11 +85,11 @@ pub fn find(s: &[u8], peer: u32, t: u32) -> Found
     }
 }
 
-// The KMAC at the place that find gives, as a part of the store; empty where find refuses.
+// The KMAC of the record that find names, as a part of the store; empty where find refuses.
 pub fn key(s: &[u8], peer: u32, t: u32) -> &[u8]
     ensures { λ r. ⌜ now r ≡ key (now (s .entry)) peer t ⌝ }
 {
-    let Found::At(place) = find(s, peer, t) else {
+    let Found::At(place, _) = find(s, peer, t) else {
         return &s[..0];
     };
     let start = KEYS_AT + RECORD * (place - 1) + 8;

@@ -1,4 +1,5 @@
 // The search for a key (document 01, "Key search").
+use super::Choice;
 use super::KEYS_AT;
 use super::Limits;
 use super::PEER;
@@ -40,6 +41,15 @@ fn has(s: &[u8], i: usize, n: usize, x: u32) -> bool
     false
 }
 
+// The end of record i of a sound store.
+fn end_at(s: &[u8], lim: Limits, i: usize) -> u32
+    requires { ⌜ sound lim (now s) ≡ true ⌝ }
+    requires { ⌜ i < keyCount (now s) ⌝ }
+    ensures { λ r. ⌜ r ≡ entryAt lim (now (s .entry)) i .end ⌝ }
+{
+    get32_at(s, KEYS_AT + RECORD * i + 36)
+}
+
 // Whether record i of a sound store serves the peer at the moment t.
 fn serves_at(s: &[u8], lim: Limits, i: usize, peer: u32, t: u32) -> bool
     requires { ⌜ sound lim (now s) ≡ true ⌝ }
@@ -53,21 +63,27 @@ fn serves_at(s: &[u8], lim: Limits, i: usize, peer: u32, t: u32) -> bool
     if !has(s, peers_at + PEER * first, count, peer) {
         return false;
     }
-    fits(get32_at(s, at + 32), get32_at(s, at + 36), t)
+    fits(get32_at(s, at + 32), end_at(s, lim, i), t)
 }
 
-// The place of the record that is taken, counted from 0, or the number of records: the first that serves.
-pub fn place_of(s: &[u8], lim: Limits, peer: u32, t: u32) -> usize
+// The record that is taken: from the last to the first, each that ends no earlier than the one taken behind it, and serves.
+pub fn chosen(s: &[u8], lim: Limits, peer: u32, t: u32) -> Choice
     requires { ⌜ sound lim (now s) ≡ true ⌝ }
     ensures { λ r. ⌜ r ≡ chosen peer t (entries lim (now (s .entry))) ⌝ }
 {
     let n = number_at(s, 2);
-    let mut i = 0;
-    while i < n {
-        if serves_at(s, lim, i, peer, t) {
-            return i;
+    let mut i = n;
+    let mut place = n;
+    let mut end = 0;
+    while i > 0 {
+        i -= 1;
+        let e = end_at(s, lim, i);
+        if end <= e {
+            if serves_at(s, lim, i, peer, t) {
+                place = i;
+                end = e;
+            }
         }
-        i += 1;
     }
-    i
+    Choice { place, end }
 }

@@ -11,6 +11,7 @@ use crate::centre::entities;
 use crate::centre::fresh;
 use crate::centre::key;
 use crate::centre::opened;
+use crate::centre::validity;
 use crate::print::counts;
 use crate::print::found;
 use crate::print::header;
@@ -40,6 +41,12 @@ fn all_keys(s: &mut [u8]) {
     counts(s);
     add(b"500 keys, add:", s, 501, 8);
     add(b"500 keys, add a held one:", s, 5, 8);
+}
+
+fn latest_end(s: &mut [u8]) {
+    found(b"the peer:", s, PEER, 8);
+    validity(b"the last from 5 to 10:", s, 500, 5, 10);
+    found(b"the peer then:", s, PEER, 8);
 }
 
 fn key_for_other() -> Key {
@@ -125,6 +132,7 @@ fn other_lengths(s: &[u8]) {
 
 pub fn larger(s: &mut [u8]) {
     all_keys(s);
+    latest_end(s);
     tenth_key(s);
     thousands(s);
     more_peers(s);

@@ -1,6 +1,7 @@
-// The worked numbers of document 01 that concern sessions and the store, and those of edition 2, a line for each case. Every store is built through messages.
+// The worked numbers of document 01 that concern sessions and the store, with those of change requests 4, 5 and 7, a line for each case. Every store is built through messages.
 mod centre;
 mod larger;
+mod latest;
 mod print;
 mod wire;
 
@@ -19,6 +20,7 @@ use centre::opened;
 use centre::validity;
 use larger::as_edition_2;
 use larger::larger;
+use latest::several_fit;
 use print::counts;
 use print::found;
 use print::kmac;
@@ -235,6 +237,7 @@ fn searches(s: &mut [u8]) {
     replaced_peers(s);
     first_removed(s);
     all_removed(s);
+    several_fit(s);
     refusals(s);
 }
 

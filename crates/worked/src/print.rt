@@ -81,11 +81,15 @@ fn refused(h: Refusal) {
     io::print_decimal(STDOUT_FILENO, refusal::house_number(h) as u64);
 }
 
-// The name, and the place that a search finds, or H and the refusal's number.
+// The name, and the place that a search finds with its end, or H and the refusal's number.
 pub fn found(name: &[u8], s: &[u8], peer: u32, t: u32) {
     text(name);
     match store::find(s, peer, t) {
-        Found::At(place) => number(place as u64),
+        Found::At(place, until) => {
+            number(place as u64);
+            text(b" until");
+            number(until as u64);
+        }
         Found::Refused(h) => refused(h),
     }
     text(b"\n");

@@ -5,8 +5,9 @@ use reference::refusal::H5;
 use crate::compare::{buffers, numbers, Compared, Difference};
 use crate::coverage::{Call, Coverage};
 use crate::layout::KEYS_AT;
-use crate::library::{Library, SessionBytes};
+use crate::library::{EndBytes, Library, SessionBytes};
 use crate::model;
+use crate::random::Random;
 use crate::wire::RESPONSE_AT;
 
 /// A failed call.
@@ -95,14 +96,22 @@ impl Both {
         Ok(written)
     }
 
-    pub fn find(&mut self, store: &[u8], peer: u32, t: u32) -> Step<i32> {
+    /// Gives the answer, and what the library left at `end`.
+    pub fn find(&mut self, store: &[u8], peer: u32, t: u32) -> Step<(i32, EndBytes)> {
         self.calls += 1;
-        let answer = model::find(store, peer, t);
-        let got = self.library.find(store, peer, t);
+        let (answer, end) = model::find(store, peer, t);
+        let before = before_search(peer, t, end.unwrap_or_default());
+        let mut got_end = before;
+        let got = self.library.find(store, peer, t, &mut got_end);
         let call = || find_call(store, peer, t);
-        named(call, || numbers("answer", answer.into(), got?.into()))?;
-        self.seen.found(store, t, answer);
-        Ok(answer)
+        named(call, || {
+            let got = got?;
+            demand_1_of_search(got, &before, &got_end)?;
+            numbers("answer", answer.into(), got.into())?;
+            buffers("end", &end.unwrap_or(before), &got_end)
+        })?;
+        self.seen.found(store, peer, t, answer);
+        Ok((answer, got_end))
     }
 
     pub fn session_keys(&mut self, kmac: &[u8], ra: &[u8; 8], rb: &[u8; 8]) -> Step {
@@ -203,6 +212,20 @@ fn demand_1(before: &World, after: &World, answer: i32, out: &[u8], got_out: &[u
         buffers("store with no RESPONSE 0", &before.store, &after.store)?;
     }
     Ok(())
+}
+
+/// What the library left at `end`, by demand 1 alone: a refusal writes nowhere.
+pub fn demand_1_of_search(answer: i32, before: &EndBytes, after: &EndBytes) -> Compared {
+    if answer < 0 {
+        buffers("end of a refusal", before, after)?;
+    }
+    Ok(())
+}
+
+/// What stands at `end` before a search. No byte is 0, nor the one that is to be written there, so
+/// that each byte that is written, or is not, is seen.
+pub fn before_search(peer: u32, t: u32, end: EndBytes) -> EndBytes {
+    Random::new(u64::from(peer) << 32 | u64::from(t)).unlike(end)
 }
 
 /// Puts the call's name beside a difference.

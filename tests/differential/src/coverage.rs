@@ -9,7 +9,7 @@ use reference::message::response::UNRECOVERABLE_DATABASE;
 use reference::refusal::{H1, H12};
 use reference::store::{Edition, EDITIONS};
 
-use crate::layout::{has_other_header, held, period};
+use crate::layout::{fits, has_other_header, held, period};
 use crate::wire::{RESPONSE_AT, RESULTS_AT, TYPE_AT};
 
 #[derive(Clone, Copy, PartialEq, Eq, PartialOrd, Ord, Debug)]
@@ -41,6 +41,10 @@ pub enum Mark {
     FoundAtEnd,
     /// A search that found a record at its one moment, start and end.
     FoundAtOneMoment,
+    /// A search that took a record with others before it that fit and end earlier.
+    FoundBehindEarlier,
+    /// A search that took the first of several that have the latest end.
+    FoundFirstOfEqual,
     /// A message with other KMACs in the second of two runs.
     OtherKmacs,
     /// A call after which two runs held a key unlike.
@@ -59,6 +63,8 @@ impl fmt::Display for Mark {
             Mark::HeaderOfOther(call) => write!(f, "{call:?} with the other header"),
             Mark::FoundAtEnd => write!(f, "record found at its end"),
             Mark::FoundAtOneMoment => write!(f, "record found at its one moment"),
+            Mark::FoundBehindEarlier => write!(f, "record found behind one that ends earlier"),
+            Mark::FoundFirstOfEqual => write!(f, "record found as the first of equal ends"),
             Mark::OtherKmacs => write!(f, "message with other KMACs"),
             Mark::HeldUnlike => write!(f, "key held unlike"),
         }
@@ -113,8 +119,9 @@ impl Coverage {
         }
     }
 
-    /// What `find` answered at a moment. A record that is found because T = end fits is told.
-    pub fn found(&mut self, store: &[u8], t: u32, answer: i32) {
+    /// What `find` answered. A record that is found because T = end fits is told, and one that is
+    /// taken by its end.
+    pub fn found(&mut self, store: &[u8], peer: u32, t: u32, answer: i32) {
         self.answer_over(store, Call::Find, answer);
         let place = usize::try_from(answer).unwrap_or(0);
         if !(1..=held(store)).contains(&place) {
@@ -124,6 +131,25 @@ impl Coverage {
             [start, end] if start == t && end == t => self.see(store, Mark::FoundAtOneMoment),
             [_, end] if end == t => self.see(store, Mark::FoundAtEnd),
             _ => {}
+        }
+        self.taken_by_end(store, peer, t, place - 1);
+    }
+
+    /// A record that is taken, its place counted from 0; one that should not be shows nothing.
+    fn taken_by_end(&mut self, store: &[u8], peer: u32, t: u32, taken: usize) {
+        let end = |&place: &usize| period(store, place)[1];
+        let all = 0..held(store);
+        let fitting: Vec<usize> = all.filter(|&i| fits(store, i, peer, t)).collect();
+        let latest = fitting.iter().map(end).max();
+        let mut holders = fitting.iter().filter(|place| Some(end(place)) == latest);
+        if holders.next() != Some(&taken) {
+            return;
+        }
+        if fitting.first() != Some(&taken) {
+            self.see(store, Mark::FoundBehindEarlier);
+        }
+        if holders.next().is_some() {
+            self.see(store, Mark::FoundFirstOfEqual);
         }
     }
 
@@ -210,6 +236,7 @@ fn of_sound_stores() -> Vec<Seen> {
         answers(Call::Receive, &[2, 3, 4, 5]),
         answers(Call::Find, &[11]),
         vec![Mark::FoundAtEnd, Mark::FoundAtOneMoment],
+        vec![Mark::FoundBehindEarlier, Mark::FoundFirstOfEqual],
         vec![Mark::Opened, Mark::Ended],
         responses.to_vec(),
         results(kind::ADD_KEYS, &[0, 2, 3, 4, 5, 255]),
@@ -266,7 +293,7 @@ mod tests {
     use super::{of_pairs, of_sessions, of_units, Call, Coverage, Mark};
     use crate::random::Random;
     use crate::stores::Names;
-    use reference::store::{encode, EDITIONS, EDITION_1, EDITION_2};
+    use reference::store::{encode, Entry, EDITIONS, EDITION_1, EDITION_2};
 
     #[test]
     fn nothing_seen_is_all_missing() {
@@ -355,18 +382,42 @@ mod tests {
         let mut entries = names.entries(&mut random, 2, 1);
         (entries[0].start, entries[0].end) = (3, 5);
         (entries[1].start, entries[1].end) = (5, 5);
-        let store = encode(EDITION_2, &entries);
-        let found = |t, answer| {
-            let mut seen = Coverage::default();
-            seen.found(&store, t, answer);
-            seen.0.keys().map(|seen| seen.mark).collect::<Vec<_>>()
-        };
+        let found = |t, answer| marks_of(&entries, t, answer);
         let given = Mark::Given(Call::Find);
         assert_eq!(found(3, 1), [given]);
         assert_eq!(found(4, 1), [given]);
         assert_eq!(found(5, 1), [given, Mark::FoundAtEnd]);
         assert_eq!(found(5, 2), [given, Mark::FoundAtOneMoment]);
         assert_eq!(found(5, -11), [Mark::Refused(Call::Find, 11)]);
+    }
+
+    /// The marks of a search for the peer 0.
+    fn marks_of(entries: &[Entry], t: u32, answer: i32) -> Vec<Mark> {
+        let mut seen = Coverage::default();
+        seen.found(&encode(EDITION_2, entries), 0, t, answer);
+        seen.0.keys().map(|seen| seen.mark).collect()
+    }
+
+    #[test]
+    fn a_record_taken_by_its_end_is_told() {
+        let mut random = Random::new(2);
+        let names = Names::new(EDITION_2, &mut random);
+        let mut entries = names.entries(&mut random, 5, 0);
+        // The fourth is of another peer, the fifth not begun.
+        for (entry, end) in entries.iter_mut().zip([7, 8, 8, 9, 9]) {
+            (entry.start, entry.end, entry.peers) = (0, end, vec![[1; 4], [0; 4]]);
+        }
+        entries[3].peers.pop();
+        entries[4].start = 9;
+        let given = Mark::Given(Call::Find);
+        let (behind, first) = (Mark::FoundBehindEarlier, Mark::FoundFirstOfEqual);
+        assert_eq!(marks_of(&entries, 3, 2), [given, behind, first]);
+        assert_eq!(marks_of(&entries[1..], 3, 1), [given, first]);
+        assert_eq!(marks_of(&entries[..2], 3, 2), [given, behind]);
+        assert_eq!(marks_of(&entries[2..], 3, 1), [given]);
+        for wrong in [1, 3, 4, 5] {
+            assert_eq!(marks_of(&entries, 3, wrong), [given]);
+        }
     }
 
     #[test]

@@ -107,7 +107,8 @@ impl Generator {
         Action::Begin { identities, number }
     }
 
-    /// A moment around the start or the end of a held record, or any.
+    /// A moment around the start or the end of a held record, or any one: at those several
+    /// fit more often.
     fn search(&mut self, world: &World) -> Action {
         let peer = u32::from_be_bytes(self.names.peer(&mut self.random));
         let any = self.names.moment(&mut self.random);
@@ -116,7 +117,7 @@ impl Generator {
             return Action::Find { peer, t: any };
         }
         let entry = entry_at(&world.store, self.random.below(held));
-        let edge = self.random.pick(&[entry.start, entry.end]);
+        let edge = self.random.pick(&[entry.start, entry.end, any]);
         let t = edge
             .wrapping_add(self.random.below(3) as u32)
             .wrapping_sub(1);
@@ -207,8 +208,8 @@ impl Generator {
             kind::ADD_KEYS => self.add(session, store),
             kind::DELETE_KEYS => wire::k_identifier(&key),
             kind::UPDATE_KEY_VALIDITIES => {
-                let start = self.names.moment(&mut self.random);
-                wire::k_validity(&key, start, self.names.moment(&mut self.random))
+                let [start, end] = self.names.period(&mut self.random);
+                wire::k_validity(&key, start, end)
             }
             _ => {
                 let count = self.peer_count();

@@ -75,6 +75,22 @@ pub fn period(store: &[u8], place: usize) -> [u32; 2] {
     [START_IN_RECORD, END_IN_RECORD].map(|at| u32_at(store, record_at(place) + at))
 }
 
+/// The peers of a record, one behind the other; none where they are not all in the store.
+fn peer_bytes(store: &[u8], place: usize) -> &[u8] {
+    let at = record_at(place);
+    let peers_at = Edition::of_length(store.len()).map_or(0, |edition| edition.peers_at());
+    let first = peers_at + PEER * u16_at(store, at + FIRST_IN_RECORD);
+    let length = PEER * u16_at(store, at + COUNT_IN_RECORD);
+    store.get(first..first + length).unwrap_or_default()
+}
+
+/// Whether a record has the peer in its list and start <= t <= end.
+pub fn fits(store: &[u8], place: usize, peer: u32, t: u32) -> bool {
+    let [start, end] = period(store, place);
+    let mut peers = peer_bytes(store, place).chunks_exact(PEER);
+    start <= t && t <= end && peers.any(|bytes| bytes == peer.to_be_bytes())
+}
+
 /// How many records a store of an edition has, at most as many as it has room for.
 pub fn held(store: &[u8]) -> usize {
     let edition = Edition::of_length(store.len());
@@ -85,10 +101,6 @@ pub fn held(store: &[u8]) -> usize {
 /// each call of a run would take longer than the call.
 pub fn entry_at(store: &[u8], place: usize) -> Entry {
     let at = record_at(place);
-    let peers_at = Edition::of_length(store.len()).map_or(0, |edition| edition.peers_at());
-    let first = peers_at + PEER * u16_at(store, at + FIRST_IN_RECORD);
-    let length = PEER * u16_at(store, at + COUNT_IN_RECORD);
-    let peers = store.get(first..first + length).unwrap_or_default();
     let mut kmac_bytes = [0; KMAC_LENGTH];
     kmac_bytes.copy_from_slice(kmac(store, place));
     let [start, end] = period(store, place);
@@ -100,7 +112,7 @@ pub fn entry_at(store: &[u8], place: usize) -> Entry {
         kmac: kmac_bytes,
         start,
         end,
-        peers: peers
+        peers: peer_bytes(store, place)
             .chunks_exact(PEER)
             .map(|peer| u32_at(peer, 0).to_be_bytes())
             .collect(),
@@ -119,7 +131,7 @@ pub fn has_other_header(store: &[u8]) -> bool {
 
 #[cfg(test)]
 mod tests {
-    use super::{entry_at, has_other_header, held, other, KEYS_AT};
+    use super::{entry_at, fits, has_other_header, held, other, KEYS_AT};
     use crate::random::Random;
     use crate::stores::Names;
     use reference::store::{encode, EDITIONS, EDITION_1, EDITION_2};
@@ -147,6 +159,23 @@ mod tests {
             assert_eq!(held(&store), entries.len());
             for (place, entry) in entries.iter().enumerate() {
                 assert_eq!(entry_at(&store, place), *entry);
+            }
+        }
+    }
+
+    #[test]
+    fn a_record_fits_by_its_peers_and_its_period() {
+        for edition in EDITIONS {
+            let mut random = Random::new(10);
+            let mut entries = Names::new(edition, &mut random).apart(&mut random);
+            let last = entries.len() - 1;
+            (entries[last].start, entries[last].end) = (5, 6);
+            let store = encode(edition, &entries);
+            for &peer in &entries[last].peers {
+                let peer = u32::from_be_bytes(peer);
+                let at = |t| fits(&store, last, peer, t);
+                assert_eq!([4, 5, 6, 7].map(at), [false, true, true, false]);
+                assert!(!fits(&store, last - 1, peer, entries[last - 1].start));
             }
         }
     }

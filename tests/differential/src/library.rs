@@ -5,9 +5,12 @@
 
 use crate::compare::{guards, unchanged, Difference};
 use crate::lent::Lent;
+use crate::random::Random;
 
 pub const SESSION_LENGTH: usize = 32;
 pub type SessionBytes = [u8; SESSION_LENGTH];
+/// The end that a search gives, in the host's order.
+pub type EndBytes = [u8; 4];
 
 extern "C" {
     fn kmac_begin(
@@ -27,7 +30,7 @@ extern "C" {
         out: *mut u8,
         out_len: usize,
     ) -> i32;
-    fn kmac_find(store: *const u8, store_len: usize, peer: u32, t: u32) -> i32;
+    fn kmac_find(store: *const u8, store_len: usize, peer: u32, t: u32, end: *mut u32) -> i32;
     fn kmac_session_keys(
         kmac: *const u8,
         kmac_len: usize,
@@ -58,21 +61,33 @@ extern "C" {
     fn kmac_empty_store(store: *mut u8, store_len: usize) -> i32;
 }
 
-/// Lends buffers at places that move with each call.
+/// Lends each buffer at a place that is drawn anew. Were it moved by a fixed step, a call that lends
+/// two would have its second at every other address only.
 pub struct Library {
-    shift: u64,
+    random: Random,
 }
 
 type Answered<T> = Result<T, Difference>;
 
 impl Library {
     pub fn new() -> Library {
-        Library { shift: 0 }
+        Library {
+            random: Random::new(0),
+        }
     }
 
     fn lend(&mut self, content: &[u8]) -> Lent {
-        self.shift = self.shift.wrapping_add(7);
-        Lent::new(content, self.shift)
+        Lent::new(content, self.random.next())
+    }
+
+    /// An end stands where C aligns a number of four bytes.
+    fn lend_end(&mut self, end: &EndBytes) -> Lent {
+        loop {
+            let lent = self.lend(end);
+            if lent.as_ptr().cast::<u32>().is_aligned() {
+                return lent;
+            }
+        }
     }
 
     pub fn begin(
@@ -123,11 +138,16 @@ impl Library {
         Ok(answer)
     }
 
-    pub fn find(&mut self, store: &[u8], peer: u32, t: u32) -> Answered<i32> {
-        let lent = self.lend(store);
-        // SAFETY: the pointer is given with the length of its buffer.
-        let answer = unsafe { kmac_find(lent.as_ptr(), lent.len(), peer, t) };
-        unchanged("store", store, &lent)?;
+    pub fn find(&mut self, store: &[u8], peer: u32, t: u32, end: &mut EndBytes) -> Answered<i32> {
+        let lent_store = self.lend(store);
+        let mut lent_end = self.lend_end(end);
+        let (s, n) = (lent_store.as_ptr(), lent_store.len());
+        let e = lent_end.as_mut_ptr().cast();
+        // SAFETY: the store is given with its length, and an end has 4 bytes, aligned as the header
+        // asks.
+        let answer = unsafe { kmac_find(s, n, peer, t, e) };
+        unchanged("store", store, &lent_store)?;
+        take_back("end", end, &lent_end)?;
         Ok(answer)
     }
 
@@ -241,4 +261,25 @@ fn take_back(of: &'static str, content: &mut [u8], lent: &Lent) -> Answered<()> 
     guards(of, lent)?;
     content.copy_from_slice(lent.content());
     Ok(())
+}
+
+#[cfg(test)]
+mod tests {
+    use super::Library;
+
+    /// Whatever a call lends, each of its buffers stands at every place modulo 16.
+    #[test]
+    fn every_buffer_of_a_call_meets_every_alignment() {
+        for buffers in 1..=4 {
+            let mut library = Library::new();
+            let mut met = vec![[false; 16]; buffers];
+            for _ in 0..1000 {
+                for places in &mut met {
+                    let lent = library.lend(&[7; 4]);
+                    places[lent.as_ptr() as usize % 16] = true;
+                }
+            }
+            assert_eq!(met, vec![[true; 16]; buffers]);
+        }
+    }
 }

@@ -12,6 +12,7 @@ mod damage;
 mod edges;
 mod faults;
 mod generator;
+mod latest;
 mod layout;
 mod lent;
 mod library;
@@ -90,6 +91,7 @@ impl Tests {
         serials::all(both, seed)?;
         search::all(both, seed)?;
         periods::all(both, seed)?;
+        latest::all(both, seed)?;
         units::all(both, seed)?;
         for edition in EDITIONS {
             self.pairs.other_parity_is_seen(edition, seed)?;

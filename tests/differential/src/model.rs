@@ -2,10 +2,10 @@
 
 use reference::refusal::{H1, H5};
 use reference::session::{Answer, Session};
-use reference::store::Edition;
+use reference::store::{Edition, Found};
 use reference::{authentication, des::Des, session, store};
 
-use crate::library::SessionBytes;
+use crate::library::{EndBytes, SessionBytes};
 
 /// The session in the bytes: state, a zero, own next number, expected number, own identity,
 /// peer identity, zeros.
@@ -36,7 +36,7 @@ fn refused(house: u8) -> i32 {
     -i32::from(house)
 }
 
-/// A length or a place, or a refusal.
+/// A length, or a refusal.
 fn code(answer: Result<usize, u8>) -> i32 {
     match answer {
         Ok(n) => n as i32,
@@ -84,8 +84,12 @@ fn code_of(answer: Answer) -> i32 {
     }
 }
 
-pub fn find(store: &[u8], peer: u32, t: u32) -> i32 {
-    code(store::find(store, &peer.to_be_bytes(), t))
+/// The end is given only with a place.
+pub fn find(store: &[u8], peer: u32, t: u32) -> (i32, Option<EndBytes>) {
+    match store::find(store, &peer.to_be_bytes(), t) {
+        Ok(Found { place, end }) => (place as i32, Some(end.to_ne_bytes())),
+        Err(house) => (refused(house), None),
+    }
 }
 
 pub fn session_keys(kmac: &[u8], ra: &[u8; 8], rb: &[u8; 8], keys: &mut [u8; 24]) -> i32 {

@@ -6,7 +6,8 @@ use reference::message::{body, kind};
 use reference::session::OPEN;
 use reference::store::Edition;
 
-use crate::both::{find_call, named, receive_call, Step, World};
+use crate::both::{before_search, demand_1_of_search, find_call, named, receive_call};
+use crate::both::{Step, World};
 use crate::compare::{buffers, numbers, Compared};
 use crate::coverage::{Call, Coverage, Mark};
 use crate::generator::{Action, Generator};
@@ -119,14 +120,26 @@ impl Pairs {
 
     fn find(&mut self, runs: &Runs, peer: u32, t: u32) -> Step {
         self.calls += 2;
-        let answer_1 = self.library.find(&runs.first.store, peer, t);
-        let answer_2 = self.library.find(&runs.second.store, peer, t);
+        let (first, second) = (&runs.first.store, &runs.second.store);
+        // Unlike in the two runs, so that an end that is not written is not alike.
+        let before_1 = before_search(peer, t, [0; 4]);
+        let before_2 = before_search(peer, t, before_1);
+        let (mut end_1, mut end_2) = (before_1, before_2);
+        let answer_1 = self.library.find(first, peer, t, &mut end_1);
+        let answer_2 = self.library.find(second, peer, t, &mut end_2);
         if let Ok(answer) = answer_1 {
-            self.seen.found(&runs.first.store, t, answer);
+            self.seen.found(first, peer, t, answer);
         }
-        let call = || format!("two runs, {}", find_call(&runs.first.store, peer, t));
+        let call = || format!("two runs, {}", find_call(first, peer, t));
         named(call, || {
-            numbers("answer", answer_1?.into(), answer_2?.into())
+            let answer = answer_1?;
+            numbers("answer", answer.into(), answer_2?.into())?;
+            demand_1_of_search(answer, &before_1, &end_1)?;
+            demand_1_of_search(answer, &before_2, &end_2)?;
+            match answer {
+                0.. => buffers("end", &end_1, &end_2),
+                _ => Ok(()),
+            }
         })
     }
 

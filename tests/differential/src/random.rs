@@ -56,7 +56,32 @@ impl Random {
         std::array::from_fn(|_| self.u8())
     }
 
+    /// Bytes of which none is 0, nor the given one of its place.
+    pub fn unlike<const N: usize>(&mut self, bytes: [u8; N]) -> [u8; N] {
+        bytes.map(|byte| loop {
+            let other = self.u8();
+            if other != 0 && other != byte {
+                break other;
+            }
+        })
+    }
+
     pub fn bytes(&mut self, length: usize) -> Vec<u8> {
         (0..length).map(|_| self.u8()).collect()
+    }
+}
+
+#[cfg(test)]
+mod tests {
+    use super::Random;
+
+    #[test]
+    fn unlike_bytes_are_unlike_and_not_zero() {
+        let mut random = Random::new(1);
+        for byte in 0..=255 {
+            let other = random.unlike([byte; 32]);
+            assert!(other.iter().all(|&other| other != 0 && other != byte));
+            assert_ne!(other, random.unlike([byte; 32]));
+        }
     }
 }

@@ -34,7 +34,7 @@ pub struct Names {
     serials: usize,
     /// From one serial to the next: some strides leave the low bits alike.
     stride: u32,
-    period: u32,
+    first_moment: u32,
 }
 
 impl Names {
@@ -67,7 +67,7 @@ impl Names {
                 .collect(),
             serials: times * random.pick(&[4, 12, 30, 90]),
             stride: random.pick(&[0x0101_0001, 0x0101_0001, 1, 1 << 8, 1 << 13, 1 << 16]),
-            period: random.pick(&[0, 0x7fff_fff8, 0x1000_0000, 0xffff_fff0]),
+            first_moment: random.pick(&[0, 0x7fff_fff8, 0x1000_0000, 0xffff_fff0]),
         }
     }
 
@@ -92,15 +92,29 @@ impl Names {
         if random.one_in(12) {
             return random.pick(&[0, 1, u32::MAX, u32::MAX - 1, 0x8000_0000]);
         }
-        self.period.wrapping_add(random.below(16) as u32)
+        self.first_moment.wrapping_add(random.below(16) as u32)
+    }
+
+    /// A start and an end, most often in this order, so that several records of one peer fit at
+    /// one moment. Many ends are equal; now and then one is unlike the others in one bit.
+    pub fn period(&self, random: &mut Random) -> [u32; 2] {
+        let mut period = [self.moment(random), self.moment(random)];
+        if random.one_in(8) {
+            period[1] ^= 1 << random.below(32);
+        }
+        if !random.one_in(4) {
+            period.sort();
+        }
+        period
     }
 
     pub fn entry(&self, random: &mut Random, peer_count: usize) -> Entry {
+        let [start, end] = self.period(random);
         Entry {
             key: self.identifier(random),
             kmac: odd_kmac(random),
-            start: self.moment(random),
-            end: self.moment(random),
+            start,
+            end,
             peers: self.peers(random, peer_count),
         }
     }

@@ -1,7 +1,8 @@
-//! The key store (01, "The key store", "What each request does", "Key search"; 02, change requests 4 and 5).
+//! The key store (01, "The key store", "What each request does", "Key search"; 02, change requests 4, 5 and 7).
 //!
 //! A store is decoded to a list of entries, the list is edited, and encoded again.
 
+use crate::authentication::KEY_LENGTH;
 use crate::reader::Reader;
 use crate::refusal::{H1, H11, H12};
 use crate::Identity;
@@ -9,6 +10,8 @@ use crate::Identity;
 pub const KEYS_AT: usize = 12;
 pub const RECORD_LENGTH: usize = 44;
 const PEER_LENGTH: usize = 4;
+/// Where the KMAC stands in a record: behind issuer and serial.
+const KMAC_IN_RECORD: usize = 8;
 
 /// An edition of the store: its number and its limits, which give places and length.
 #[derive(Clone, Copy, PartialEq, Eq, Debug)]
@@ -270,12 +273,37 @@ fn peer_sum(entries: &[Entry]) -> usize {
     entries.iter().map(|entry| entry.peers.len()).sum()
 }
 
-/// The place, from 1, of the first record for `peer` with start <= t <= end (02, change request 4).
-pub fn find(store: &[u8], peer: &Identity, t: u32) -> Result<usize, u8> {
+/// The record that a search takes: its place, the first being 1, and its end.
+#[derive(Clone, Copy, PartialEq, Eq, Debug)]
+pub struct Found {
+    pub place: usize,
+    pub end: u32,
+}
+
+/// Of the records for `peer` with start <= t <= end (02, change request 4) the one with the latest end,
+/// the first of them where several have it (change request 7).
+pub fn find(store: &[u8], peer: &Identity, t: u32) -> Result<Found, u8> {
     if Edition::of_length(store.len()).is_none() {
         return Err(H1);
     }
     let entries = decode(store).ok_or(H12)?;
     let fits = |entry: &Entry| entry.peers.contains(peer) && entry.start <= t && t <= entry.end;
-    entries.iter().position(fits).map(|i| i + 1).ok_or(H11)
+    let fitting: Vec<Found> = (1..)
+        .zip(entries)
+        .filter(|(_, entry)| fits(entry))
+        .map(|(place, Entry { end, .. })| Found { place, end })
+        .collect();
+    let latest = fitting.iter().map(|found| found.end).max().ok_or(H11)?;
+    let first = fitting.into_iter().find(|found| found.end == latest);
+    Ok(first.expect("a fitting record has the latest end"))
+}
+
+/// The second call of a search: the KMAC of the record that `find` takes, as a part of the store; empty
+/// where `find` refuses.
+pub fn key<'a>(store: &'a [u8], peer: &Identity, t: u32) -> &'a [u8] {
+    let Ok(Found { place, .. }) = find(store, peer, t) else {
+        return &[];
+    };
+    let record = &store[KEYS_AT + (place - 1) * RECORD_LENGTH..];
+    &record[KMAC_IN_RECORD..][..KEY_LENGTH]
 }

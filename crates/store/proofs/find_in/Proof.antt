@@ -20,8 +20,8 @@ returns c =
     let a = start .args in
     sym (find-unsound (a .lim) (a .s .now) (a .peer) (a .t) (sym (is-sound .is-sound .ensures) ∙ not-true (is-sound .is-sound .result) (c .if1 .taken)))
 
-place-of-requires : tie.Need-place-of-requires
-place-of-requires c κs =
+chosen-requires : tie.Need-chosen-requires
+chosen-requires c κs =
     let is-sound = c .before in
     sym (is-sound .is-sound .ensures) ∙ not-false (is-sound .is-sound .result) (c .if1 .left)
 
@@ -38,23 +38,24 @@ add-t11 c = search needs
 
 returns-2 : tie.Need-returns-2
 returns-2 c =
-    let place-of = c .before .before in
-    let if1 = place-of .before in
+    let chosen = c .before .before .before .before in
+    let if1 = chosen .before in
     let is-sound = if1 .before in
     let start = is-sound .before .before in
     let a = start .args in
-    sym
-    (find-at (a .lim) (a .s .now) (a .peer) (a .t) (sym (is-sound .is-sound .ensures) ∙ not-false (is-sound .is-sound .result) (if1 .if1 .left)) (place-of .place-of .result) (place-of .place-of .ensures) (omega arith))
+    let h = sym (is-sound .is-sound .ensures) ∙ not-false (is-sound .is-sound .result) (if1 .if1 .left) in
+    let n = c .before .before .before .number-at .ensures .0 in
+    sym (find-at (a .lim) (a .s .now) (a .peer) (a .t) h (chosen .chosen .result) (chosen .chosen .ensures) (omega (arith, n, c .before .if2 .taken)))
 
 returns-3 : tie.Need-returns-3
 returns-3 c =
-    let place-of = c .before .before in
-    let if1 = place-of .before in
+    let chosen = c .before .before .before in
+    let if1 = chosen .before in
     let is-sound = if1 .before in
     let start = is-sound .before .before in
     let a = start .args in
-    sym
-    (find-none (a .lim) (a .s .now) (a .peer) (a .t) (sym (is-sound .is-sound .ensures) ∙ not-false (is-sound .is-sound .result) (if1 .if1 .left)) (place-of .place-of .result) (place-of .place-of .ensures) (omega arith))
+    let h = sym (is-sound .is-sound .ensures) ∙ not-false (is-sound .is-sound .result) (if1 .if1 .left) in
+    sym (find-none (a .lim) (a .s .now) (a .peer) (a .t) h (chosen .chosen .result) (chosen .chosen .ensures) (omega arith))
 
 pub find-in-spec : {M : Type 1} → statement M
 find-in-spec =
@@ -62,7 +63,7 @@ find-in-spec =
     (tie.spec
     is-sound-requires
     returns
-    place-of-requires
+    chosen-requires
     number-at-requires
     add-t11
     returns-2

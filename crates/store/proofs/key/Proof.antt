@@ -17,7 +17,7 @@ found : (k : tie.After-known-told) → let a = k .before .before .before .before
 found k =
     let find = k .before .before .before in
     let a = find .before .before .args in
-    find-placed (a .s .now) (a .peer) (a .t) (k .before .place .given .0 .0) (sym (find .find .ensures) ∙ ap foundAs (k .before .place .given .1))
+    find-placed (a .s .now) (a .peer) (a .t) (k .before .place .given .0 .0) (k .before .place .given .0 .1 .0) (sym (find .find .ensures) ∙ ap foundAs (k .before .place .given .1))
 
 find-requires : tie.Need-find-requires
 find-requires c κs = search needs

@@ -3,7 +3,7 @@
 use reference::authentication::{build, check, session_keys};
 use reference::hex::encode;
 use reference::session::{begin, receive, Answer, Session, CLOSED, OPEN, WAITING};
-use reference::store::{self, decode, find, Edition, EDITIONS, EDITION_1};
+use reference::store::{self, decode, find, Edition, Found, EDITIONS, EDITION_1};
 use reference::{Identity, OUTPUT_LENGTH};
 use std::io::Read;
 use std::ops::RangeInclusive;
@@ -224,7 +224,7 @@ impl Bench {
 
     fn search(&self, peer: Identity, t: [u8; 4]) {
         match find(&self.store, &peer, u32::from_be_bytes(t)) {
-            Ok(place) => println!("place {place}"),
+            Ok(Found { place, end }) => println!("place {place} until {end:08x}"),
             Err(h) => refused(h),
         }
     }

@@ -203,17 +203,22 @@ fn additions(session: &mut Session) {
 }
 
 fn updates(session: &mut Session) {
-    println!("# At noon on 15 November the first key fits for both radio block centres.");
+    println!("# At noon on 15 November both keys fit for the radio block centre 01000101. They end alike, so the first is taken.");
     search(RBC, NOON);
+    println!("# For the centre 01000102 the first key alone fits.");
     search(NEXT_RBC, NOON);
-    println!("# The first key now ends at that moment, its last hour, and still fits for both; a key 9 is not held (RESULT 1).");
+    println!(
+        "# The first key now ends at that moment, its last hour; a key 9 is not held (RESULT 1)."
+    );
     session.send(
         kind::UPDATE_KEY_VALIDITIES,
         &requests(&[until_noon(1), until_noon(9)]),
     );
+    println!("# For the one centre the third key is now taken: it ends later.");
     search(RBC, NOON);
+    println!("# For the other the first key still fits. Its end is the driver's warning: after this hour it fits no longer.");
     search(NEXT_RBC, NOON);
-    println!("# An hour later it no longer fits: the third key is taken for the one centre, and none for the other.");
+    println!("# An hour later the third key is still taken for the one centre, and none fits for the other.");
     search(RBC, HOUR_LATER);
     search(NEXT_RBC, HOUR_LATER);
     println!("# The third key is now for the other centre alone.");
@@ -400,6 +405,8 @@ fn commands() {
         key(2, TUG, &kmac(2), &[RBC, NEXT_RBC]),
     ];
     session.send(kind::ADD_KEYS, &requests(&list));
+    // Both keys fit and end alike.
+    search(RBC, NOON);
     session.send(kind::UPDATE_KEY_VALIDITIES, &requests(&[until_noon(1)]));
     session.send(
         kind::UPDATE_KEY_ENTITIES,
@@ -407,8 +414,11 @@ fn commands() {
     );
     println!("show");
     search(RBC, NOON);
-    // The first key is in its last hour.
+    // Both fit, and the second ends later.
     search(NEXT_RBC, NOON);
+    // The first key is in its last hour, then past it.
+    search(TUG, NOON);
+    search(TUG, HOUR_LATER);
     keys(3);
     keys(0);
     keys(2);
@@ -449,10 +459,17 @@ fn editions() {
 
 /// Stores of 38,012 bytes and near it, and the longest line.
 fn large_stores(mut session: Session) {
-    let mut bytes = store::encode(EDITION_2, &[held(2, &[RBC, NEXT_RBC])]);
+    let list = [
+        held(2, &[RBC, NEXT_RBC]),
+        held_until(10, 3, &[TUG]),
+        held_until(u32::MAX, 4, &[NEXT_RBC]),
+    ];
+    let mut bytes = store::encode(EDITION_2, &list);
     store_line(&bytes);
     println!("show");
     search(NEXT_RBC, NOON);
+    // An end of one digit that is not zero.
+    search(TUG, [0, 0, 0, 10]);
     keys(1);
     put_header(&mut bytes, &store::encode(EDITION_1, &[]));
     store_line(&bytes);
@@ -479,6 +496,16 @@ fn held(serial: u32, list: &[Identity]) -> Entry {
         start: u32::from_be_bytes(START),
         end: u32::from_be_bytes(END),
         peers: list.to_vec(),
+    }
+}
+
+/// An entry that fits from the first moment of all to this end.
+fn held_until(end: u32, serial: u32, list: &[Identity]) -> Entry {
+    let start = 0;
+    Entry {
+        start,
+        end,
+        ..held(serial, list)
     }
 }
 

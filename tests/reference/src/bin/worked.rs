@@ -1,9 +1,9 @@
-//! Prints the worked numbers of sessions and the store (01, and 02, change requests 4 and 5) as WORKED.md asks,
+//! Prints the worked numbers of sessions and the store (01, and 02, change requests 4, 5 and 7) as WORKED.md asks,
 //! for comparison line by line.
 
 use reference::message::{assemble, kind, response, session_init, HEADER_LENGTH};
 use reference::session::{begin, receive, Answer, Session};
-use reference::store::{decode, encode, find, Edition, Entry, KeyIdentifier};
+use reference::store::{decode, encode, find, key, Edition, Entry, Found, KeyIdentifier};
 use reference::store::{EDITION_1, EDITION_2};
 use reference::{Identity, OUTPUT_LENGTH};
 
@@ -48,6 +48,9 @@ fn edition_1(store: &mut [u8]) {
     other_periods(store);
     several_records(store);
     all_deleted(store);
+    latest_end(store);
+    equal_ends(store);
+    other_ends(store);
     refused_searches(store);
     delete_all_of_unsound(store);
     last_number(store);
@@ -180,6 +183,34 @@ fn all_deleted(store: &mut [u8]) {
     not_zero(store);
 }
 
+fn latest_end(store: &mut [u8]) {
+    clear(store);
+    request(store, "until 8", add_one(1, PEER, 5, 8));
+    request(store, "until 9", add_one(2, PEER, 5, 9));
+    request(store, "until 20 for another", add_one(3, OTHER, 5, 20));
+    request(store, "until 9 again", add_one(4, PEER, 6, 9));
+    request(store, "from 10 until 30", add_one(5, PEER, 10, 30));
+    search(store, "the latest end", PEER, 7);
+    kmac(store, "the latest end, the KMAC", PEER, 7);
+    search(store, "the latest end, T is 8", PEER, 8);
+    search(store, "the latest end, T is 10", PEER, 10);
+}
+
+fn equal_ends(store: &mut [u8]) {
+    request(store, "delete the first of equal ends", delete(2));
+    search(store, "the second of equal ends", PEER, 7);
+    kmac(store, "the second of equal ends, the KMAC", PEER, 7);
+}
+
+/// The last and the first end of all.
+fn other_ends(store: &mut [u8]) {
+    request(store, "the first without end", validity(1, 5, u32::MAX));
+    search(store, "without end, T is 10", PEER, 10);
+    request(store, "from 0 to 0", validity(5, 0, 0));
+    search(store, "until 0", PEER, 0);
+    kmac(store, "until 0, the KMAC", PEER, 0);
+}
+
 fn refused_searches(store: &mut [u8]) {
     search(&store[1..], "short store", PEER, 5);
     store[EDITION_LOW] = 2;
@@ -219,6 +250,9 @@ fn full_of_500_keys(store: &mut [u8]) {
     counts(store);
     request(store, "500 keys, add", add(501, 8));
     request(store, "500 keys, add a held one", add(5, 8));
+    search(store, "the peer", PEER, 8);
+    request(store, "the last from 5 to 10", validity(500, 5, 10));
+    search(store, "the peer then", PEER, 8);
     request(store, "delete the tenth", delete(10));
     let for_other = Entry {
         peers: vec![OTHER; 8],
@@ -290,6 +324,18 @@ type Command = (u8, Vec<u8>);
 
 fn add(serial: u32, peers: usize) -> Command {
     add_for(OWN, &entry(serial, peers))
+}
+
+/// A key of its own KMAC for one peer: a byte is 2^(serial - 1), which has odd parity.
+fn add_one(serial: u32, peer: Identity, start: u32, end: u32) -> Command {
+    let entry = Entry {
+        key: identifier(serial),
+        kmac: [1 << (serial - 1); 24],
+        start,
+        end,
+        peers: vec![peer],
+    };
+    add_for(OWN, &entry)
 }
 
 fn add_for(recipient: Identity, entry: &Entry) -> Command {
@@ -404,21 +450,19 @@ fn delete_all(store: &mut [u8]) {
     deliver(session, store, "delete all", &message);
 }
 
-/// NAME: PLACE.
+/// NAME: PLACE until END.
 fn search(store: &[u8], name: &str, peer: Identity, t: u32) {
     match find(store, &peer, t) {
-        Ok(place) => println!("{name}: {place}"),
+        Ok(Found { place, end }) => println!("{name}: {place} until {end}"),
         Err(refusal) => println!("{name}: H{refusal}"),
     }
 }
 
-/// NAME: the bytes of the KMAC at the place that the search gives, none where it refuses.
+/// NAME: the bytes of the KMAC that the search hands back, none where it refuses.
 fn kmac(store: &[u8], name: &str, peer: Identity, t: u32) {
     print!("{name}:");
-    if let Ok(place) = find(store, &peer, t) {
-        for byte in entries(store)[place - 1].kmac {
-            print!(" {byte}");
-        }
+    for byte in key(store, &peer, t) {
+        print!(" {byte}");
     }
     println!();
 }

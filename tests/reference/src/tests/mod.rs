@@ -5,6 +5,7 @@ mod authentication;
 mod des;
 mod numbers;
 mod runs;
+mod search;
 mod self_test;
 mod session;
 mod slips;
@@ -12,13 +13,16 @@ mod store;
 
 use crate::message::kind;
 use crate::session::{receive, Answer, Session, OPEN};
-use crate::store::{decode, encode, find, Edition, Entry, KeyIdentifier, EDITIONS};
+use crate::store::{decode, encode, find, Edition, Entry, Found, KeyIdentifier, EDITIONS};
 use crate::Identity;
 
 const OWN: Identity = [0x02, 0xe6, 0xa5, 0x4b];
 const CENTRE: Identity = [0x05, 0x11, 0x22, 0x33];
 const ISSUER: Identity = [0x05, 0x44, 0x55, 0x66];
 const TRANSACTION: [u8; 4] = [0x89, 0xab, 0xcd, 0xef];
+
+/// Lengths of a store of neither edition.
+const WRONG_LENGTHS: [usize; 6] = [0, 12, 3851, 3853, 38011, 38013];
 
 /// Where the fields of a header start (000, 5.3.3).
 const VERSION_AT: usize = 4;
@@ -79,6 +83,11 @@ fn full(edition: Edition) -> Vec<Entry> {
     entries(&vec![peers_each; edition.keys_max])
 }
 
+/// The answer of a search that takes the record of this place and end.
+fn found(place: usize, end: u32) -> Result<Found, u8> {
+    Ok(Found { place, end })
+}
+
 /// Asserts that a record with this period, alone in a store, is found at the first moments and not at
 /// the others.
 fn assert_fits([start, end]: [u32; 2], at: &[u32], not_at: &[u32]) {
@@ -91,7 +100,7 @@ fn assert_fits([start, end]: [u32; 2], at: &[u32], not_at: &[u32]) {
     for edition in EDITIONS {
         let store = encode(edition, &alone);
         for &t in at {
-            assert_eq!(find(&store, &peer, t), Ok(1), "{t:08x}");
+            assert_eq!(find(&store, &peer, t), found(1, end), "{t:08x}");
         }
         for &t in not_at {
             assert_eq!(find(&store, &peer, t), Err(11), "{t:08x}");

@@ -1,11 +1,11 @@
 //! Beginning, opening, the table of tests, the bodies, and the refusals in their order.
 
-use super::{entries, entry, full, k_entities, k_identifier, k_struct, k_validity, message};
+use super::{entries, entry, found, full, k_entities, k_identifier, k_struct, k_validity, message};
 use super::{open_session, peer_list, peers, reply, requests, Bench, CENTRE, OWN};
 use super::{RECEIVER_AT, SENDER_AT, SEQUENCE_AT, TYPE_AT, VERSION_AT};
 use crate::message::kind;
 use crate::session::{begin, receive, Answer, Session, CLOSED, OPEN, WAITING};
-use crate::store::{encode, find, Edition, EDITIONS, EDITION_1, EDITION_2};
+use crate::store::{encode, find, Edition, Entry, EDITIONS, EDITION_1, EDITION_2};
 
 const COMMANDS_WITH_REQUESTS: [u8; 4] = [
     kind::ADD_KEYS,
@@ -548,7 +548,10 @@ fn whole_session(edition: Edition) {
     let end = message(kind::END_OF_UPDATE, 303, &[]);
     assert_eq!(bench.receive(&end), Answer::Ended);
     assert_eq!(bench.receive(&end), Answer::Refused(3));
-    assert_eq!(find(&bench.store, &peers(3, 1)[0], 0x1003), Ok(2));
+    assert_eq!(
+        find(&bench.store, &peers(3, 1)[0], 0x1003),
+        found(2, 0x2003)
+    );
 }
 
 /// Commands alone fill the store, 50 keys a message.
@@ -566,9 +569,10 @@ fn a_whole_session_that_fills_the_store() {
         assert_eq!(bench.add(&[next.clone(), last.clone()]), [2, 3]);
         assert_eq!(bench.store, encode(edition, &list));
         assert_eq!(bench.delete(&[1]), [0]);
-        let (peer, start) = (next.peers[0], next.start);
+        let Entry { start, end, .. } = next;
+        let peer = next.peers[0];
         assert_eq!(bench.add(&[next]), [0]);
-        assert_eq!(find(&bench.store, &peer, start), Ok(list.len()));
+        assert_eq!(find(&bench.store, &peer, start), found(list.len(), end));
         let end = message(kind::END_OF_UPDATE, bench.session.expected, &[]);
         assert_eq!(bench.receive(&end), Answer::Ended);
         assert_eq!(bench.entries()[..list.len() - 1], list[1..]);

@@ -1,11 +1,8 @@
-//! The two editions, the store's layout, its soundness, the requests and the search.
+//! The two editions, the store's layout, its soundness and the requests.
 
-use super::{assert_fits, entries, entry, full, identifier, kmac, peers, ISSUER, OWN};
+use super::{entries, entry, found, full, identifier, kmac, peers, ISSUER, OWN, WRONG_LENGTHS};
 use crate::store::{decode, encode, find, work, Edition, Entry, Request};
 use crate::store::{EDITIONS, EDITION_1, EDITION_2};
-
-/// Lengths of neither edition.
-const WRONG_LENGTHS: [usize; 6] = [0, 12, 3851, 3853, 38011, 38013];
 
 /// A number that no entry of a full store has.
 const NEW: u32 = 600;
@@ -141,8 +138,14 @@ fn a_list_comes_back_from_its_store() {
 fn a_record_may_hold_more_peers_than_a_command_brings() {
     let list = entries(&[1001, 0, 2999]);
     let store = encode(EDITION_2, &list);
-    assert_eq!(find(&store, &peers(1, 1001)[1000], 0x1001), Ok(1));
-    assert_eq!(find(&store, &peers(3, 2999)[2998], 0x1003), Ok(3));
+    assert_eq!(
+        find(&store, &peers(1, 1001)[1000], 0x1001),
+        found(1, 0x2001)
+    );
+    assert_eq!(
+        find(&store, &peers(3, 2999)[2998], 0x1003),
+        found(3, 0x2003)
+    );
     assert_eq!(decode(&store), Some(list));
 }
 
@@ -434,101 +437,5 @@ fn requests_that_fail_leave_the_list() {
         assert_eq!(update_entities(edition, &mut list, 2, 7), 255);
         assert_eq!(update_entities(edition, &mut list, 2, 1000), 255);
         assert_eq!(list, entries(&counts));
-    }
-}
-
-#[test]
-fn search_refusals_in_order() {
-    for edition in EDITIONS {
-        let sound = encode(edition, &entries(&[1]));
-        let mut unsound = sound.clone();
-        unsound[edition.length() - 1] = 1;
-        for length in WRONG_LENGTHS {
-            let mut store = unsound.clone();
-            store.resize(length, 0);
-            assert_eq!(find(&store, &[9; 4], 0), Err(1));
-        }
-        assert_eq!(find(&unsound, &[9; 4], 0), Err(12));
-        assert_eq!(find(&unsound, &peers(1, 1)[0], 0x1001), Err(12));
-        assert_eq!(find(&sound, &[9; 4], 0x1001), Err(11));
-        assert_eq!(find(&encode(edition, &[]), &[9; 4], 0), Err(11));
-    }
-}
-
-#[test]
-fn search_gives_the_first_place_that_fits() {
-    for edition in EDITIONS {
-        let shared = [7, 7, 7, 7];
-        let mut list = entries(&[1, 1, 1, 1]);
-        for entry in &mut list[1..] {
-            entry.peers.push(shared);
-        }
-        // Where the second ends the third begins: both fit.
-        list[1].end = list[2].start;
-        let store = encode(edition, &list);
-        assert_eq!(find(&store, &shared, 0x1003), Ok(2));
-        assert_eq!(find(&store, &shared, 0x1004), Ok(3));
-        assert_eq!(find(&store, &shared, 0x2003), Ok(3));
-        assert_eq!(find(&store, &shared, 0x2004), Ok(4));
-        assert_eq!(find(&store, &shared, 0x2005), Err(11));
-        assert_eq!(find(&store, &list[0].peers[0], 0x1004), Ok(1));
-    }
-}
-
-#[test]
-fn search_finds_the_last_record_and_the_last_peer() {
-    for (edition, places) in [(EDITION_1, 64), (EDITION_2, 500)] {
-        let list = full(edition);
-        let store = encode(edition, &list);
-        let last = list.last().unwrap();
-        let last_peer = last.peers.last().unwrap();
-        assert_eq!(find(&store, last_peer, last.start), Ok(places));
-    }
-}
-
-#[test]
-fn search_compares_unsigned() {
-    let period = [0x7fff_ffff, 0xffff_fffe];
-    let outside = [0, 0x7fff_fffe, 0xffff_ffff];
-    assert_fits(period, &[0x7fff_ffff, 0x8000_0000, 0xffff_fffe], &outside);
-}
-
-#[test]
-fn a_period_with_its_start_after_its_end_never_fits() {
-    for [start, end] in [[200, 100], [101, 100], [u32::MAX, 0]] {
-        let between = end + (start - end) / 2;
-        let moments = [0, end, end + 1, between, start - 1, start, u32::MAX];
-        assert_fits([start, end], &[], &moments);
-    }
-}
-
-#[test]
-fn the_first_and_the_last_moment_of_all_fit() {
-    assert_fits([0, 9], &[0, 9], &[10, u32::MAX]);
-    assert_fits([9, u32::MAX], &[9, u32::MAX], &[0, 8]);
-    assert_fits([0, 0], &[0], &[1, u32::MAX]);
-    assert_fits([u32::MAX; 2], &[u32::MAX], &[0, u32::MAX - 1]);
-}
-
-/// The moments differ from the start or the end in one byte, by one up or down.
-#[test]
-fn all_four_bytes_of_start_and_end_are_compared() {
-    let moment = 0x2080_7f10;
-    for at in 0..4 {
-        let step = 1 << (8 * at);
-        let (below, above) = (moment - step, moment + step);
-        assert_fits([moment, u32::MAX], &[moment, above], &[below]);
-        assert_fits([0, moment], &[below, moment], &[above]);
-    }
-}
-
-#[test]
-fn a_record_without_peers_never_fits() {
-    for edition in EDITIONS {
-        let list = entries(&[0, 1]);
-        let peer = list[1].peers[0];
-        assert_eq!(find(&encode(edition, &list), &peer, 0x1002), Ok(2));
-        let alone = encode(edition, &list[..1]);
-        assert_eq!(find(&alone, &peer, 0x1002), Err(11));
     }
 }

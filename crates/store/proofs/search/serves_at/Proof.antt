@@ -76,25 +76,18 @@ add-get32-at c = let r = roomy (c .before .before .before .before .before) in om
 get32-at-requires : tie.Need-get32-at-requires
 get32-at-requires c κs = let r = roomy (c .before .before .before .before .before) in omega arith
 
-add-get32-at-2 : tie.Need-add-get32-at-2
-add-get32-at-2 c =
-    let number-at-at = c .before .before .before .before in
-    let shared-slice-known = number-at-at .before .before in
-    let r = roomy shared-slice-known in omega arith
-
-get32-at-requires-2 : tie.Need-get32-at-requires-2
-get32-at-requires-2 c κs =
-    let number-at-at = c .before .before .before .before in
-    let shared-slice-known = number-at-at .before .before in
-    let r = roomy shared-slice-known in omega arith
+end-at-requires : tie.Need-end-at-requires
+end-at-requires c κs =
+    let start = c .before .before .before .before .before .before .before in
+    start .pre
 
 fits-requires : tie.Need-fits-requires
 fits-requires c κs = search needs
 
 returns-2 : tie.Need-returns-2
 returns-2 c =
-    let get32-at2 = c .before in
-    let get32-at = get32-at2 .before in
+    let end-at = c .before in
+    let get32-at = end-at .before in
     let if1 = get32-at .before in
     let has = if1 .before in
     let number-at2 = has .before in
@@ -110,7 +103,7 @@ returns-2 c =
     let e = entryAt L s i in
     let t = start .args .t in
     c .fits2 .ensures
-    ∙ ap₂ (λ (x y : ℕ). fits x y t) (get32-at .get32-at .ensures) (get32-at2 .get32-at2 .ensures)
+    ∙ ap₂ (λ (x y : ℕ). fits x y t) (get32-at .get32-at .ensures) (end-at .end-at .ensures)
     ∙ sym (ap (λ (x : Bool). x && fits (e .start) (e .end) t) peers)
 
 pub serves-at-spec : {M : Type 1} → statement M
@@ -131,7 +124,6 @@ serves-at-spec =
     returns
     add-get32-at
     get32-at-requires
-    add-get32-at-2
-    get32-at-requires-2
+    end-at-requires
     fits-requires
     returns-2)
