@@ -11,6 +11,9 @@
  * what it passes is then not what the library takes. So compile every file that includes kmac.h again when KMAC_VERSION
  * rises, and check at power-on that kmac_version() is KMAC_VERSION.
  *
+ *     version 3   a session remembers a transaction number, in bytes that version 2 did not read and wrote as zeros, and
+ *                 kmac_receive answers RESPONSE 10. A host that knows no RESPONSE 10 must be changed; a session that was
+ *                 kept from version 2 is read as one that remembers none.
  *     version 2   kmac_find takes end and writes to it. A host of version 1 lends nothing there: the library would write
  *                 the end of a key to whatever address stands in the register of the fifth argument.
  *     version 1   had neither KMAC_VERSION nor kmac_version.
@@ -87,7 +90,7 @@
 extern "C" {
 #endif
 
-#define KMAC_VERSION 2            /* of this header and its library (above); not the interface version of SUBSET-137 */
+#define KMAC_VERSION 3            /* of this header and its library (above); not the interface version of SUBSET-137 */
 
 /* Lengths in bytes. */
 #define KMAC_STORE_LEN 3852       /* the key store, edition 1 */
@@ -180,8 +183,8 @@ int32_t kmac_find(const uint8_t *store, size_t store_len, uint32_t peer, uint32_
 /* ---- sessions with the key centre */
 
 /*
- * A session is KMAC_SESSION_LEN bytes of the host's, opaque to it; it holds identities and sequence numbers, no pointer and
- * no key. All zero bytes are a closed session. A session is waiting, open or closed.
+ * A session is KMAC_SESSION_LEN bytes of the host's, opaque to it; it holds identities, sequence numbers and a transaction
+ * number, no pointer and no key. All zero bytes are a closed session. A session is waiting, open or closed.
  */
 
 /*
@@ -212,9 +215,14 @@ int32_t kmac_begin(uint32_t own, uint32_t peer, uint16_t number, uint8_t session
  *     5   the interface version is not 2                                     closed
  *     6   the store is unsound (not asked for delete all)                    open
  *     9   the sequence number is not the one expected                        closed
+ *     10  the transaction number is that of the message before               closed
  *     11  the body is not exactly its fields, or one is out of its range     closed
  *
- * They are tested in the order 2, 5, 4, 3, 9, 1, 11, 6. With any RESPONSE but 0 no byte of the store has changed.
+ * They are tested in the order 2, 5, 4, 3, 9, 10, 1, 11, 6. With any RESPONSE but 0 no byte of the store has changed.
+ *
+ * The message before is the last of this session that passed the tests 2, 5, 4, 3 and 9, whatever it was answered. The
+ * first message after the session init has none before it, and zero is a number like another. An end of update with the
+ * number of the message before is answered 10, with a reply, and does not end the session quietly.
  *
  *     RESULT
  *     0   done

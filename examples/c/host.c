@@ -152,9 +152,16 @@ static void refuse_torn(struct centre *centre)
     holds("  the store is as before", memcmp(before, kept[current], sizeof before) == 0);
 }
 
-/* The key that was torn comes whole, the one for the other RBC goes, and the centre ends. */
-static void renew_and_end(struct centre *centre)
+static void start_delete(struct centre *centre, struct message *message)
 {
+    centre_start(centre, message, CMD_DELETE_KEYS);
+    centre_delete(message, KEY_CENTRE, 1);
+}
+
+/* The key that was torn comes whole. The next command repeats the transaction number: it is not worked. */
+static void refuse_repeated(struct centre *centre)
+{
+    uint8_t before[KMAC_STORE_LEN];
     const uint32_t peer = RBC;
     struct key key = example_key(3, &peer, LATER_END);
     struct message message;
@@ -162,8 +169,19 @@ static void renew_and_end(struct centre *centre)
     centre_add(&message, TUG, &key);
     step("add the third key: the length of the reply", receive(&message), 24);
     step("  RESULT", result(0), 0);
-    centre_start(centre, &message, CMD_DELETE_KEYS);
-    centre_delete(&message, KEY_CENTRE, 1);
+    memcpy(before, kept[current], sizeof before);
+    centre->transaction--;
+    start_delete(centre, &message);
+    step("a delete with its transaction number: the reply's length", receive(&message), 23);
+    step("  RESPONSE", response(), 10);
+    holds("  the store is as before", memcmp(before, kept[current], sizeof before) == 0);
+}
+
+/* The key for the other RBC goes, and the centre ends. */
+static void delete_and_end(struct centre *centre)
+{
+    struct message message;
+    start_delete(centre, &message);
     step("delete the first key: the length of the reply", receive(&message), 24);
     step("  RESULT", result(0), 0);
     centre_start(centre, &message, NOTIF_END_OF_UPDATE);
@@ -223,7 +241,9 @@ int main(void)
     open_session(&centre);
     refuse_torn(&centre);
     open_session(&centre);
-    renew_and_end(&centre);
+    refuse_repeated(&centre);
+    open_session(&centre);
+    delete_and_end(&centre);
     derive(keys);
     exchange(keys);
     return 0;

@@ -44,6 +44,8 @@ pub unsafe extern "C" fn reference_receive(
         peer: peer.to_be_bytes(),
         next,
         expected,
+        remembered: false,
+        transaction: 0,
     };
     let message = lent(message, message_len);
     let (_, answer) = session::receive(

@@ -37,7 +37,7 @@ bytesIn text k = take 38050 (bytesOf (word text k))
 abbrev pub atStart : Bench
 atStart =
     record {
-      session = record { state = 0; own = 0; peer = 0; next = 0; expected = 0 };
+      session = record { state = 0; own = 0; peer = 0; next = 0; expected = 0; remembered = false; transaction = 0 };
       large = false;
       held = false;
       line = 1;

@@ -70,14 +70,35 @@ fn results(s: &[u8]) {
     }
 }
 
+// What each RESPONSE other than 0 says (000, 5.3.15), of those that the module gives.
+fn meaning(code: u8) {
+    match code {
+        1 => text(b" request not supported"),
+        2 => text(b" message length error"),
+        3 => text(b" sender is not the peer"),
+        4 => text(b" receiver is not the own identity"),
+        5 => text(b" unsupported interface version"),
+        6 => text(b" store is unsound"),
+        9 => text(b" sequence number is not the expected one"),
+        10 => text(b" transaction number repeated"),
+        11 => text(b" format error"),
+        _ => {}
+    }
+}
+
+fn response(code: u8) {
+    text(b"  RESPONSE ");
+    number(code as u64);
+    meaning(code);
+}
+
 // A reply, and beside it RESPONSE and each RESULT.
 pub fn reply(s: &[u8]) {
     named(b"reply ", s);
     if s.len() < HEAD {
         return;
     }
-    text(b"  RESPONSE ");
-    number(s[RESPONSE_AT] as u64);
+    response(s[RESPONSE_AT]);
     if s.len() > HEAD {
         results(s);
     }
@@ -111,6 +132,15 @@ fn identities(own: u32, peer: u32) {
     word(peer);
 }
 
+// The transaction number that is remembered.
+fn last(remembered: bool, transaction: u32) {
+    if remembered {
+        number(transaction as u64);
+    } else {
+        text(b"none");
+    }
+}
+
 pub fn shown(session: Session) {
     state(session.state);
     identities(session.own, session.peer);
@@ -118,5 +148,7 @@ pub fn shown(session: Session) {
     number(session.next as u64);
     text(b", expected ");
     number(session.expected as u64);
+    text(b", last transaction ");
+    last(session.remembered, session.transaction);
     end();
 }

@@ -49,6 +49,8 @@ impl Bench {
             peer: 0,
             next: 0,
             expected: 0,
+            remembered: false,
+            transaction: 0,
         };
         Bench {
             session,

@@ -1,44 +1,34 @@
 -- What C is told of a session's calls.
 -- Assumes nothing.
 use mathlib.Core.Path.{_≡_, refl, sym, ap, _∙_, subst}
-use mathlib.Core.Bool.{Bool, true, false, not, cond}
+use mathlib.Core.Bool.{Bool, true, false, cond}
 use mathlib.Core.List.{List, [], _∷_, _++_}
 use Prim.Native.Nat.{ℕ, _<_, _^_}
 use native.Mathlib.Omega.{arith}
-use lib.Dec.{lit<, eqb, leb}
+use lib.Dec.{lit<, eqb}
 use lib.IntN.{ℤ}
-use lib.ListN.{length, replicate}
+use lib.ListN.{replicate}
 use borrow.Author.Tests.{eqb-false, ne-eqb}
 use mir.Syntax.{w32}
 use mir.Val.{SFits, toZ, ofZ}
 use mir.ValLaws.{toZ-ofZ}
-use Rattle.octets.specs.Bytes.{Bytes, be16, be32}
+use Rattle.octets.specs.Bytes.{Bytes, get32, be16, be32}
 use Rattle.octets.proofs.WordLaws.{get16-fits, get32-fits, get16-be16, get32-be32}
 use Rattle.session.specs.declared.Session.{Session}
 use Rattle.session.specs.declared.Received.{Received}
 use Rattle.session.specs.declared.Received.the-variants.{Reply, Opened, Ended, Refused}
-use Rattle.session.specs.Sessions.{State, Closed, Waiting, Open, up, closing, replied, Beginning, begins, orRefuse, begin}
+use Rattle.session.specs.Sessions.{State, Closed, Waiting, Open, up, closing, opening, remembering, replied, Beginning, begins, begin}
 use Rattle.session.specs.Rules.{Answered, reply, opened, ended, refused, Outcome, receive, receivedAs, Does}
+use Rattle.session.proofs.SessionLaws.{begin-made}
 use Rattle.session.proofs.OutcomeLaws.{does-as}
 use Rattle.session.proofs.StateLaws.{session-ends}
 use Rattle.session.proofs.Theorems.{reply-length, refusal-leaves-session}
-use Rattle.kmac.specs.Code.{code}
-use Rattle.kmac.specs.SessionBuffer.{sessionBytes, sessionOf, begunBuffer, replyLength, writesSession, sessionAfter, Short, Tells}
+use Rattle.kmac.specs.Code.{code, nonzero}
+use Rattle.kmac.specs.SessionBuffer.{flag, sessionBytes, sessionOf, begunBuffer, replyLength, writesSession, sessionAfter, Short, Tells}
 use Rattle.kmac.specs.Claims.{ReadAsWritten, ZerosAreClosed, RefusalLeavesBuffer, SessionsChain}
 use Rattle.kmac.proofs.CodeLaws.{negative}
 
 -- ---- lengths are small numbers
-
--- what a begin makes
-begin-made : (own peer number : ℕ) (out : List ℕ) (e : Session) (n : ℕ) → begin own peer number out ≡ begins e n
-    → (record { state = 1; own = own; peer = peer; next = up number; expected = 0 } ≡ e) × (23 ≡ n)
-unfolding begin
-begin-made own peer number out e n q = tested (leb 1032 (length out)) (not (eqb own peer)) _ q
-  where
-    tested : (a b : Bool) (made : Session) → orRefuse a 2 (orRefuse b 6 (begins made 23)) ≡ begins e n → (made ≡ e) × (23 ≡ n)
-    tested true true made h = (cc, cc)
-    tested true false made h = (cc, cc)
-    tested false b made h = (cc, cc)
 
 pub init-small : (own peer number : ℕ) (out : List ℕ) (e : Session) (n : ℕ) → begin own peer number out ≡ begins e n → n < 2 ^ 31
 init-small own peer number out e n q = omega (arith, begin-made own peer number out e n q .1)
@@ -70,24 +60,32 @@ module _ (e : Session) (m s out : List ℕ) {after : Session} {store output : Li
 
 -- ---- the claims
 
-alike : (state : ℕ) {own own' peer peer' next next' expected expected' : ℕ} → own ≡ own' → peer ≡ peer' → next ≡ next' → expected ≡ expected'
-    → _≡_ {A = Session} (record { state = state; own = own; peer = peer; next = next; expected = expected }) (record { state = state; own = own'; peer = peer'; next = next'; expected = expected' })
-alike state p q r t = cc
+alike : (state : ℕ) {own own' peer peer' next next' expected expected' transaction transaction' : ℕ} {remembered remembered' : Bool}
+    → own ≡ own' → peer ≡ peer' → next ≡ next' → expected ≡ expected' → remembered ≡ remembered' → transaction ≡ transaction'
+    → _≡_ {A = Session} (record { state = state; own = own; peer = peer; next = next; expected = expected; remembered = remembered; transaction = transaction })
+    (record { state = state; own = own'; peer = peer'; next = next'; expected = expected'; remembered = remembered'; transaction = transaction' })
+alike state p q r t u v = cc
+
+nonzero-flag : (b : Bool) → nonzero (flag b) ≡ b
+nonzero-flag true = refl
+nonzero-flag false = refl
 
 pub read-as-written : ReadAsWritten
 read-as-written =
     record {
-      same = λ e a b c d f.
-          let zeros : List ℕ = replicate 18 0 in
-          let p = be32 (e .peer) ++ zeros in
+      same = λ e a b c d f g.
+          let zeros : List ℕ = replicate 14 0 in
+          let t = be32 (e .transaction) ++ zeros in
+          let p = be32 (e .peer) ++ t in
           let o = be32 (e .own) ++ p in
           let x = be16 (e .expected) ++ o in
-          let head : List ℕ = e .state ∷ 0 ∷ [] in
+          let head : List ℕ = e .state ∷ flag (e .remembered) ∷ [] in
           let n1 = get16-be16 head x (e .next) 2 refl b in
           let n2 = get16-be16 (head ++ be16 (e .next)) o (e .expected) 4 refl c in
           let n3 = get32-be32 (head ++ (be16 (e .next) ++ be16 (e .expected))) p (e .own) 6 refl d in
-          let n4 = get32-be32 (head ++ (be16 (e .next) ++ (be16 (e .expected) ++ be32 (e .own)))) zeros (e .peer) 10 refl f in
-          alike (e .state) n3 n4 n1 n2;
+          let n4 = get32-be32 (head ++ (be16 (e .next) ++ (be16 (e .expected) ++ be32 (e .own)))) t (e .peer) 10 refl f in
+          let n5 = get32-be32 (head ++ (be16 (e .next) ++ (be16 (e .expected) ++ (be32 (e .own) ++ be32 (e .peer))))) zeros (e .transaction) 14 refl g in
+          alike (e .state) n3 n4 n1 n2 (nonzero-flag (e .remembered)) n5;
     }
 
 pub zeros-are-closed : ZerosAreClosed
@@ -113,30 +111,46 @@ record Fitting (e : Session) : Type 0 where
   expected-fits : e .expected < 65536
   own-fits : e .own < 4294967296
   peer-fits : e .peer < 4294967296
+  transaction-fits : e .transaction < 4294967296
 
 sessionOf-sessionBytes : (e : Session) → Fitting e → sessionOf (sessionBytes e) ≡ e
-sessionOf-sessionBytes e f = read-as-written .same e (f .state-fits) (f .next-fits) (f .expected-fits) (f .own-fits) (f .peer-fits)
+sessionOf-sessionBytes e f = read-as-written .same e (f .state-fits) (f .next-fits) (f .expected-fits) (f .own-fits) (f .peer-fits) (f .transaction-fits)
 
 sessionOf-fits : (b : List ℕ) → Bytes b → Fitting (sessionOf b)
 sessionOf-fits b h =
-    record { state-fits = h 0; next-fits = get16-fits b h 2; expected-fits = get16-fits b h 4; own-fits = get32-fits b h 6; peer-fits = get32-fits b h 10 }
+    record {
+      state-fits = h 0;
+      next-fits = get16-fits b h 2;
+      expected-fits = get16-fits b h 4;
+      own-fits = get32-fits b h 6;
+      peer-fits = get32-fits b h 10;
+      transaction-fits = get32-fits b h 14;
+    }
 
 module _ (e : Session) (f : Fitting e) where
   -- whatever becomes of the state and the numbers, they fit, and the identities stay
-  moved-fits : (state next expected : ℕ) → state < 256 → next < 65536 → expected < 65536
-      → Fitting (record { state = state; own = e .own; peer = e .peer; next = next; expected = expected })
-  moved-fits state next expected a b c = record { state-fits = a; next-fits = b; expected-fits = c; own-fits = f .own-fits; peer-fits = f .peer-fits }
+  moved-fits : (state next expected : ℕ) (remembered : Bool) (transaction : ℕ) → state < 256 → next < 65536 → expected < 65536 → transaction < 4294967296
+      → Fitting (record { state = state; own = e .own; peer = e .peer; next = next; expected = expected; remembered = remembered; transaction = transaction })
+  moved-fits state next expected remembered transaction a b c d =
+      record { state-fits = a; next-fits = b; expected-fits = c; own-fits = f .own-fits; peer-fits = f .peer-fits; transaction-fits = d }
 
   replied-fits : (then : State) → Fitting (replied e then)
-  replied-fits Closed = moved-fits 0 (up (e .next)) (e .expected) (lit< tt) (omega arith) (f .expected-fits)
-  replied-fits Waiting = moved-fits 1 (up (e .next)) (e .expected) (lit< tt) (omega arith) (f .expected-fits)
-  replied-fits Open = moved-fits 2 (up (e .next)) (up (e .expected)) (lit< tt) (omega arith) (omega arith)
+  replied-fits Closed = moved-fits 0 (up (e .next)) (e .expected) (e .remembered) (e .transaction) (lit< tt) (omega arith) (f .expected-fits) (f .transaction-fits)
+  replied-fits Waiting = moved-fits 1 (up (e .next)) (e .expected) (e .remembered) (e .transaction) (lit< tt) (omega arith) (f .expected-fits) (f .transaction-fits)
+  replied-fits Open = moved-fits 2 (up (e .next)) (up (e .expected)) (e .remembered) (e .transaction) (lit< tt) (omega arith) (omega arith) (f .transaction-fits)
 
   closing-fits : Fitting (closing e)
-  closing-fits = moved-fits 0 (e .next) (e .expected) (lit< tt) (f .next-fits) (f .expected-fits)
+  closing-fits = moved-fits 0 (e .next) (e .expected) (e .remembered) (e .transaction) (lit< tt) (f .next-fits) (f .expected-fits) (f .transaction-fits)
 
-  receive-fits : (m s out : List ℕ) → Fitting (receive e m s out .session)
-  receive-fits m s out = session-ends Fitting e m s out f closing-fits (λ n. moved-fits 2 (e .next) (up n) (lit< tt) (f .next-fits) (omega arith)) replied-fits
+  opening-fits : (n : ℕ) → Fitting (opening e n)
+  opening-fits n = moved-fits 2 (e .next) (up n) false 0 (lit< tt) (f .next-fits) (omega arith) (lit< tt)
+
+  remembering-fits : (n : ℕ) → n < 4294967296 → Fitting (remembering e n)
+  remembering-fits n h = moved-fits (e .state) (e .next) (e .expected) true n (f .state-fits) (f .next-fits) (f .expected-fits) h
+
+receive-fits : (e : Session) → Fitting e → (m s out : List ℕ) → Bytes m → Fitting (receive e m s out .session)
+receive-fits e f m s out h =
+    session-ends Fitting e m s out f (remembering-fits e f (get32 m 13) (get32-fits m h 13)) closing-fits (opening-fits e f) (λ d then g. replied-fits d g then)
 
 -- the buffer after an outcome is read as its session: where it is written, and where a refusal leaves both
 sessionOf-sessionAfter : (o : Outcome) (b : List ℕ) → Fitting (o .session) → (a : Answered) → o .answer ≡ a → ((n : ℕ) → o .answer ≡ refused n → (n ≡ 5 → ⊥) → o .session ≡ sessionOf b)
@@ -153,18 +167,18 @@ sessionOf-sessionAfter o b f (refused n) q k = rw q (go (eqb n 5) refl)
 begin-fits : (own peer number : ℕ) (out : List ℕ) (e : Session) (n : ℕ) → own < 4294967296 → peer < 4294967296 → begin own peer number out ≡ begins e n → Fitting e
 begin-fits own peer number out e n h k q =
     subst Fitting (begin-made own peer number out e n q .0)
-    (record { state-fits = lit< tt; next-fits = omega arith; expected-fits = lit< tt; own-fits = h; peer-fits = k })
+    (record { state-fits = lit< tt; next-fits = omega arith; expected-fits = lit< tt; own-fits = h; peer-fits = k; transaction-fits = lit< tt })
 
 pub sessions-chain : SessionsChain
 sessions-chain =
     record {
       of-message = chained;
-      of-receive = λ b m s out h told after store output t. ap sessionOf (t .session-is) ∙ chained b m s out h;
+      of-receive = λ b m s out h k told after store output t. ap sessionOf (t .session-is) ∙ chained b m s out h k;
       of-begin = λ own peer number out b h k e n q. ap (λ (x : Beginning). sessionOf (begunBuffer x b)) q ∙ sessionOf-sessionBytes e (begin-fits own peer number out e n h k q);
       of-refused-begin = λ own peer number out b n q. ap (λ (x : Beginning). sessionOf (begunBuffer x b)) q;
     }
   where
-    chained : (b m s out : List ℕ) → Bytes b → sessionOf (sessionAfter (receive (sessionOf b) m s out) b) ≡ receive (sessionOf b) m s out .session
-    chained b m s out h =
+    chained : (b m s out : List ℕ) → Bytes b → Bytes m → sessionOf (sessionAfter (receive (sessionOf b) m s out) b) ≡ receive (sessionOf b) m s out .session
+    chained b m s out h k =
         let e : Session = sessionOf b in
-        sessionOf-sessionAfter (receive e m s out) b (receive-fits e (sessionOf-fits b h) m s out) (receive e m s out .answer) refl (refusal-leaves-session .as-it-was e m s out)
+        sessionOf-sessionAfter (receive e m s out) b (receive-fits e (sessionOf-fits b h) m s out k) (receive e m s out .answer) refl (refusal-leaves-session .as-it-was e m s out)

@@ -16,7 +16,8 @@ use Rattle.kmac.specs.SessionBuffer.{sessionBytes, sessionOf, begunBuffe
 
 -- a session whose fields fit their bytes is read as it was written
 pub record ReadAsWritten : Type 0 where
-  pub same : (e : Session) → e .state < 256 → e .next < 65536 → e .expected < 65536 → e .own < 4294967296 → e .peer < 4294967296 → sessionOf (sessionBytes e) ≡ e
+  pub same : (e : Session) → e .state < 256 → e .next < 65536 → e .expected < 65536 → e .own < 4294967296 → e .peer < 4294967296 → e .transaction < 4294967296
+      → sessionOf (sessionBytes e) ≡ e
 
 -- 32 zeros are a closed session
 pub record ZerosAreClosed : Type 0 where
@@ -30,9 +31,9 @@ pub record RefusalLeavesBuffer : Type 0 where
 -- calls chain in C: the session that is read from the buffer afterwards is the one that the call behind hands back, whatever it answers.
 -- So demand 3 speaks of runs of C calls that lend one session buffer and one store
 pub record SessionsChain : Type 0 where
-  pub of-message : (b m s out : List ℕ) → Bytes b → sessionOf (sessionAfter (receive (sessionOf b) m s out) b) ≡ receive (sessionOf b) m s out .session
+  pub of-message : (b m s out : List ℕ) → Bytes b → Bytes m → sessionOf (sessionAfter (receive (sessionOf b) m s out) b) ≡ receive (sessionOf b) m s out .session
   -- as the contract of `kmac_receive` has it
-  pub of-receive : (b m s out : List ℕ) → Bytes b → (told : ℤ) (after store output : List ℕ) → Tells (receive (sessionOf b) m s out) told b after store output
+  pub of-receive : (b m s out : List ℕ) → Bytes b → Bytes m → (told : ℤ) (after store output : List ℕ) → Tells (receive (sessionOf b) m s out) told b after store output
       → sessionOf after ≡ receive (sessionOf b) m s out .session
   -- a begin's session replaces the one before; a refused begin leaves it
   pub of-begin : (own peer number : ℕ) (out b : List ℕ) → own < 4294967296 → peer < 4294967296 → (e : Session) (n : ℕ) → begin own peer number out ≡ begins e n

@@ -9,7 +9,7 @@ use Rattle.store.specs.Search.{Finding, found, unfound}
 
 -- the version of the C interface; it is not the interface version of 000
 abbrev pub version : ℕ
-version = 2
+version = 3
 
 abbrev pub code : Answer → ℤ
 code (gives n) = pos n

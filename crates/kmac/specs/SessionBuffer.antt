@@ -1,7 +1,7 @@
 -- The session as C keeps it: 32 bytes, all zero in a closed session that has never begun.
 -- Assumes nothing.
 use mathlib.Core.Path.{_≡_}
-use mathlib.Core.Bool.{Bool, true, cond}
+use mathlib.Core.Bool.{Bool, true, false, cond}
 use mathlib.Core.List.{List, _∷_, _++_}
 use Prim.Native.Nat.{ℕ, _<_, _^_}
 use lib.Dec.{eqb}
@@ -12,14 +12,32 @@ use Rattle.refusal.specs.House.{Answer, house, gives}
 use Rattle.session.specs.declared.Session.{Session}
 use Rattle.session.specs.Sessions.{Beginning, begins, refuses}
 use Rattle.session.specs.Rules.{Answered, reply, opened, ended, refused, Outcome}
-use Rattle.kmac.specs.Code.{code}
+use Rattle.kmac.specs.Code.{code, nonzero}
 
--- the state, a zero, the own next number, the number expected next, own identity, peer identity, zeros
+-- whether a transaction number is remembered
+abbrev pub flag : Bool → ℕ
+flag true = 1
+flag false = 0
+
+-- the state, the flag, the own next number, the number expected next, own identity, peer identity, the transaction number, zeros
+abbrev pub bytesWith : ℕ → Session → List ℕ
+bytesWith flag e = e .state ∷ flag ∷ be16 (e .next) ++ (be16 (e .expected) ++ (be32 (e .own) ++ (be32 (e .peer) ++ (be32 (e .transaction) ++ replicate 14 0))))
+
 abbrev pub sessionBytes : Session → List ℕ
-sessionBytes e = e .state ∷ 0 ∷ be16 (e .next) ++ (be16 (e .expected) ++ (be32 (e .own) ++ (be32 (e .peer) ++ replicate 18 0)))
+sessionBytes e = bytesWith (flag (e .remembered)) e
 
+-- any flag but 0 is 1
 abbrev pub sessionOf : List ℕ → Session
-sessionOf b = record { state = getD b 0 0; own = get32 b 6; peer = get32 b 10; next = get16 b 2; expected = get16 b 4 }
+sessionOf b =
+    record {
+      state = getD b 0 0;
+      own = get32 b 6;
+      peer = get32 b 10;
+      next = get16 b 2;
+      expected = get16 b 4;
+      remembered = nonzero (getD b 1 0);
+      transaction = get32 b 14;
+    }
 
 -- ---- begin
 

@@ -28,7 +28,7 @@ ghost use Rattle.kmac.specs.SessionBuffer.{sessionOf, begunLength, begun
 mod session_buffer;
 
 // KMAC_VERSION of kmac.h: it rises where a host must be changed or compiled again.
-const VERSION: i32 = 2;
+const VERSION: i32 = 3;
 
 // A refusal as a negative number.
 fn refused(h: Refusal) -> i32

@@ -1,4 +1,4 @@
--- Document 01's starred numbers and those of edition 2, computed.
+-- Document 01's starred numbers, those of edition 2 and those of transaction numbers, computed.
 -- Assumes nothing.
 use mathlib.Core.Path.{_≡_, refl}
 use mathlib.Core.Bool.{true}
@@ -11,13 +11,17 @@ use Rattle.store.specs.Search.{placeWhere, latest, findIn, find}
 use Rattle.store.specs.Request.{firstReason, result, done, after, work}
 use Rattle.message.specs.Header.{kindOf}
 use Rattle.message.specs.Body.{sizeAt, fieldsOk, requestAt, fieldsFrom, requestsFrom, requests, bodyOk}
-use Rattle.session.specs.Rules.{respond, firstFailed, verdict, obey, inState, receiveIn, receive}
-use Rattle.runs.specs.Starred.{hold, starred, larger}
+use Rattle.session.specs.Rules.{respond, firstFailed, allPass, verdict, heard, obey, inState, receiveIn, receive}
+use Rattle.runs.specs.Starred.{hold, starred, larger, transactions}
 
 pub starred-hold : hold starred ≡ true
-unfolding hold starred same receive receiveIn editionOf editionIn inState verdict firstFailed obey respond kindOf bodyOk fieldsFrom fieldsOk sizeAt requests requestsFrom requestAt work after result firstReason done placeWhere peersOf encode header keyRecord keyRecords words numbers elem entries entriesFrom sound allHold headerOk countsOk sumsOk sumBefore uniqueOk newKey parityOk allOdd unusedOk allBelow allZero part splice ones find findIn latest
+unfolding hold starred same receive receiveIn editionOf editionIn inState verdict firstFailed heard allPass obey respond kindOf bodyOk fieldsFrom fieldsOk sizeAt requests requestsFrom requestAt work after result firstReason done placeWhere peersOf encode header keyRecord keyRecords words numbers elem entries entriesFrom sound allHold headerOk countsOk sumsOk sumBefore uniqueOk newKey parityOk allOdd unusedOk allBelow allZero part splice ones find findIn latest
 starred-hold = refl
 
 pub larger-hold : hold larger ≡ true
-unfolding hold larger same receive receiveIn editionOf editionIn inState verdict firstFailed obey respond kindOf bodyOk fieldsFrom fieldsOk sizeAt requests requestsFrom requestAt work after result firstReason done placeWhere peersOf encode header keyRecord keyRecords words numbers elem entries entriesFrom sound allHold headerOk countsOk sumsOk sumBefore uniqueOk newKey parityOk allOdd unusedOk allBelow allZero part splice ones find findIn latest
+unfolding hold larger same receive receiveIn editionOf editionIn inState verdict firstFailed heard allPass obey respond kindOf bodyOk fieldsFrom fieldsOk sizeAt requests requestsFrom requestAt work after result firstReason done placeWhere peersOf encode header keyRecord keyRecords words numbers elem entries entriesFrom sound allHold headerOk countsOk sumsOk sumBefore uniqueOk newKey parityOk allOdd unusedOk allBelow allZero part splice ones find findIn latest
 larger-hold = refl
+
+pub transactions-hold : hold transactions ≡ true
+unfolding hold transactions same receive receiveIn editionOf editionIn inState verdict firstFailed heard allPass obey respond kindOf bodyOk fieldsFrom fieldsOk sizeAt requests requestsFrom requestAt work after result firstReason done placeWhere peersOf encode header keyRecord keyRecords words numbers elem entries entriesFrom sound allHold headerOk countsOk sumsOk sumBefore uniqueOk newKey parityOk allOdd unusedOk allBelow allZero part splice ones find findIn latest
+transactions-hold = refl

@@ -25,7 +25,7 @@ use Rattle.message.specs.Body.{bodyOk, requests, listOk}
 use Rattle.message.specs.Written.{replyBytes}
 use Rattle.session.specs.declared.Session.{Session}
 use Rattle.session.specs.Sessions.{State, Closed, Waiting, Open, stateOf, closing, opening}
-use Rattle.session.specs.Rules.{reply, opened, Outcome, refuse, respond, headerTests, typeTest, firstFailed, Verdict, passed, failed, verdict, obey, judged, opens, whileWaiting, inState, receiveIn, receive}
+use Rattle.session.specs.Rules.{reply, opened, Outcome, refuse, respond, headerTests, typeTest, firstFailed, Verdict, passed, failed, verdict, allPass, heard, numberTests, obey, judged, opens, whileWaiting, inState, receiveIn, receive}
 use Rattle.session.proofs.RuleLaws.{Passed, Says, verdict-says}
 use Rattle.runs.specs.Calls.{replyOf}
 use Rattle.runs.specs.Alike.{AlikeMessages}
@@ -81,15 +81,15 @@ no-entries-wellFormed L =
       apart = λ i j l h p q. absurd (not-suc-le-zero h);
     }
 
-module _ (L : Limits) (m m' : List ℕ) (ts : List Tag) (a : AlikeMessages m m') (e : Session) (s s' out : List ℕ) (v : Twins L ts s s') where
+module _ (L : Limits) (m m' : List ℕ) (ts : List Tag) (a : AlikeMessages m m') (s s' out : List ℕ) (v : Twins L ts s s') where
   x : Reading m m'
   x = reading m m' a
 
   -- ---- a message past all tests
 
-  requests-same : (k : Command) → kind m ≡ Asks (Requests k) → bodyOk (Requests k) m ≡ true → SameStep L m m' ts (obey L (Requests k) e m s out) (obey L (Requests k) e m' s' out)
+  requests-same : (e : Session) (k : Command) → kind m ≡ Asks (Requests k) → bodyOk (Requests k) m ≡ true → SameStep L m m' ts (obey L (Requests k) e m s out) (obey L (Requests k) e m' s' out)
   unfolding obey bodyOk
-  requests-same k q h =
+  requests-same e k q h =
       let r : AlikeRequests (requests k m) (requests k m') = x .requests-are k q h in
       let h' : listOk k m' ≡ true = sym (x .body-is (Requests k) q) ∙ h in
       let w : Work = work L (e .own) (requests k m) (entries L s) in
@@ -102,15 +102,15 @@ module _ (L : Limits) (m m' : List ℕ) (ts : List Tag) (a : AlikeMessages m m')
       (work-wellFormed L (e .own) (requests k m') (entries L s') (requests-readable k m' (a .bytes') h') (wellFormed' L v))
       (work-alike L (e .own) r (v .alike))))
 
-  obey-same : (task : Task) → Passed m task → SameStep L m m' ts (obey L task e m s out) (obey L task e m' s' out)
+  obey-same : (e : Session) (task : Task) → Passed m task → SameStep L m m' ts (obey L task e m s out) (obey L task e m' s' out)
   unfolding obey
-  obey-same (Requests k) h = requests-same k (h .kind-is) (h .body-ok)
-  obey-same DeleteAll h =
+  obey-same e (Requests k) h = requests-same e k (h .kind-is) (h .body-ok)
+  obey-same e DeleteAll h =
       let W : List ℕ = replyBytes (e .own) (e .peer) (transaction m) (e .next) 0 [] in
       let g : WellFormed L [] = no-entries-wellFormed L in
       respond-same L m m' ts 0 [] [] Open e (encode L []) (encode L []) out refl (x .transaction-is)
       (subst (λ (j : Kind). Twins L (obeyed j m m' W ts) (encode L []) (encode L [])) (sym (h .kind-is)) (encode-twins L (twins-bounded L v) (total-edition L v) g g no-entries))
-  obey-same EndOfUpdate h = record { answer-is = refl; session-is = refl; output-is = refl; twins = v }
+  obey-same e EndOfUpdate h = record { answer-is = refl; session-is = refl; output-is = refl; twins = v }
 
   -- ---- the tests
 
@@ -119,29 +119,36 @@ module _ (L : Limits) (m m' : List ℕ) (ts : List Tag) (a : AlikeMessages m m')
   typeTest-same SessionInit q = refl
   typeTest-same Other q = refl
 
-  verdict-same : verdict L e m s ≡ verdict L e m' s'
+  verdict-same : (e : Session) → verdict L e m s ≡ verdict L e m' s'
   unfolding verdict
-  verdict-same =
-      rw (x .length-ok, x .version-is, x .receiver-is, x .sender-is, x .sequence-is)
-      (ap (firstFailed (headerTests e m')) (typeTest-same (kind m) refl ∙ ap (λ (k : Kind). typeTest k L m' s') (x .kind-is)))
+  verdict-same e =
+      rw (x .length-ok, x .version-is, x .receiver-is, x .sender-is, x .sequence-is, x .transaction-is)
+      (ap (λ (w : Verdict). firstFailed (headerTests e m') (firstFailed (numberTests e m') w)) (typeTest-same (kind m) refl ∙ ap (λ (k : Kind). typeTest k L m' s') (x .kind-is)))
 
-  judged-same : (w : Verdict) → Says m w → SameStep L m m' ts (judged w L e m s out) (judged w L e m' s' out)
+  heard-same : (e : Session) → heard e m ≡ heard e m'
+  unfolding heard allPass
+  heard-same e = rw (x .length-ok, x .version-is, x .receiver-is, x .sender-is, x .sequence-is, x .transaction-is)
+
+  -- the verdict on a session e, told by the session d
+  judged-same : (e d : Session) (w : Verdict) → Says e m w → SameStep L m m' ts (judged w L d m s out) (judged w L d m' s' out)
   unfolding Says
-  judged-same (passed task) h = obey-same task h
-  judged-same (failed response then) h =
-      respond-same L m m' ts response [] [] then e s s' out refl (x .transaction-is)
-      (subst (λ (b : Bool). Twins L (cond b (obeyed (kind m) m m' (replyBytes (e .own) (e .peer) (transaction m) (e .next) response []) ts) ts) s s') (sym h) v)
+  judged-same e d (passed task) h = obey-same d task h
+  judged-same e d (failed response then) h =
+      respond-same L m m' ts response [] [] then d s s' out refl (x .transaction-is)
+      (subst (λ (b : Bool). Twins L (cond b (obeyed (kind m) m m' (replyBytes (d .own) (d .peer) (transaction m) (d .next) response []) ts) ts) s s') (sym (h .not-zero)) v)
 
-  open-same : SameStep L m m' ts (judged (verdict L e m s) L e m s out) (judged (verdict L e m' s') L e m' s' out)
-  open-same =
-      subst (λ (w : Verdict). SameStep L m m' ts (judged (verdict L e m s) L e m s out) (judged w L e m' s' out)) verdict-same
-      (judged-same (verdict L e m s) (verdict-says L e m s))
+  open-same : (e : Session) → SameStep L m m' ts (judged (verdict L e m s) L (heard e m) m s out) (judged (verdict L e m' s') L (heard e m') m' s' out)
+  open-same e =
+      let w = verdict L e m s in
+      subst (λ (w' : Verdict). SameStep L m m' ts (judged w L (heard e m) m s out) (judged w' L (heard e m') m' s' out)) (verdict-same e)
+      (subst (λ (d : Session). SameStep L m m' ts (judged w L (heard e m) m s out) (judged w L d m' s' out)) (heard-same e)
+      (judged-same e (heard e m) w (verdict-says L e m s)))
 
   -- ---- the states
 
-  waiting-same : SameStep L m m' ts (whileWaiting e m s out) (whileWaiting e m' s' out)
+  waiting-same : (e : Session) → SameStep L m m' ts (whileWaiting e m s out) (whileWaiting e m' s' out)
   unfolding whileWaiting
-  waiting-same =
+  waiting-same e =
       either-same L m m' ts (opens e m) (opens e m')
       (record { answer = opened; session = opening e (sequence m); store = s; output = out }) (refuse 5 (closing e) s out)
       (record { answer = opened; session = opening e (sequence m'); store = s'; output = out }) (refuse 5 (closing e) s' out)
@@ -150,19 +157,19 @@ module _ (L : Limits) (m m' : List ℕ) (ts : List Tag) (a : AlikeMessages m m')
       (refuse-same L m m' ts 5 (closing e) s s' out v)
 
   -- a message of a header's length at least
-  long-same : (o o' : Outcome) → SameStep L m m' ts o o' → SameStep L m m' ts (cond (leb 20 (length m)) o (refuse 4 e s out)) (cond (leb 20 (length m')) o' (refuse 4 e s' out))
-  long-same o o' h =
+  long-same : (e : Session) (o o' : Outcome) → SameStep L m m' ts o o' → SameStep L m m' ts (cond (leb 20 (length m)) o (refuse 4 e s out)) (cond (leb 20 (length m')) o' (refuse 4 e s' out))
+  long-same e o o' h =
       either-same L m m' ts (leb 20 (length m)) (leb 20 (length m')) o (refuse 4 e s out) o' (refuse 4 e s' out) (ap (leb 20) (x .long)) h (refuse-same L m m' ts 4 e s s' out v)
 
-  state-same : (t : State) → SameStep L m m' ts (inState t L e m s out) (inState t L e m' s' out)
+  state-same : (e : Session) (t : State) → SameStep L m m' ts (inState t L e m s out) (inState t L e m' s' out)
   unfolding inState
-  state-same Closed = refuse-same L m m' ts 3 e s s' out v
-  state-same Waiting = long-same (whileWaiting e m s out) (whileWaiting e m' s' out) waiting-same
-  state-same Open = long-same (judged (verdict L e m s) L e m s out) (judged (verdict L e m' s') L e m' s' out) open-same
+  state-same e Closed = refuse-same L m m' ts 3 e s s' out v
+  state-same e Waiting = long-same e (whileWaiting e m s out) (whileWaiting e m' s' out) (waiting-same e)
+  state-same e Open = long-same e (judged (verdict L e m s) L (heard e m) m s out) (judged (verdict L e m' s') L (heard e m') m' s' out) (open-same e)
 
-  pub receive-same : SameStep L m m' ts (receive e m s out) (receive e m' s' out)
+  pub receive-same : (e : Session) → SameStep L m m' ts (receive e m s out) (receive e m' s' out)
   unfolding receive receiveIn
-  receive-same =
+  receive-same e =
       rw (v .edition, v .edition')
       (either-same L m m' ts (leb 1032 (length out)) (leb 1032 (length out)) (inState (stateOf (e .state)) L e m s out) (refuse 2 e s out)
-      (inState (stateOf (e .state)) L e m' s' out) (refuse 2 e s' out) refl (state-same (stateOf (e .state))) (refuse-same L m m' ts 2 e s s' out v))
+      (inState (stateOf (e .state)) L e m' s' out) (refuse 2 e s' out) refl (state-same e (stateOf (e .state))) (refuse-same L m m' ts 2 e s s' out v))

@@ -40,7 +40,7 @@ run-same (alike-message {cs = cs} {cs' = cs'} m m' out x r) L ts w w' q v =
     let o : Outcome = receive (w .session) m (w .store) out in
     let o' : Outcome = receive (w' .session) m' (w' .store) out in
     let t : SameStep L m m' ts o o' =
-    subst (λ (e : Session). SameStep L m m' ts o (receive e m' (w' .store) out)) q (receive-same L m m' ts x (w .session) (w .store) (w' .store) out v) in
+    subst (λ (e : Session). SameStep L m m' ts o (receive e m' (w' .store) out)) q (receive-same L m m' ts x (w .store) (w' .store) out v (w .session)) in
     let k = run-same r L _ (next (brings m out) w) (next (brings m' out) w') (t .session-is) (t .twins) in
     record {
       seen-is =

@@ -21,13 +21,13 @@ use Rattle.store.specs.Request.{firstReason, result, done, after, work}
 use Rattle.message.specs.Header.{kindOf}
 use Rattle.message.specs.Body.{sizeAt, fieldsOk, requestAt, fieldsFrom, requestsFrom, requests, bodyOk, wellFormedAdd}
 use Rattle.session.specs.declared.Received.the-variants.{Reply}
-use Rattle.session.specs.Rules.{reply, Outcome, respond, firstFailed, verdict, obey, inState, receiveIn, receive}
+use Rattle.session.specs.Rules.{reply, Outcome, respond, firstFailed, allPass, verdict, heard, obey, inState, receiveIn, receive}
 use Rattle.runs.specs.Calls.{Call, brings, World, seen, next, allSeen, final}
 use Rattle.runs.specs.Alike.{inKeysFrom, inMessageKey, inRecordKey, inStoreKey, DifferAt, AlikeMessages, no-calls, alike-message, isSound, AlikeStores}
 use Rattle.runs.specs.Tally.{tags, without, tagged, allTagged, tallyFrom}
 use Rattle.runs.specs.Secrecy.{noneUnlike, tallyOf, Alike}
 use Rattle.runs.specs.CodeRuns.{Handed, by-message, CodeRun, code-ends, code-message, AlikeCode}
-use Rattle.runs.specs.Starred.{expecting, from2to1, kStruct}
+use Rattle.runs.specs.Starred.{expecting, from2to1, numbered, kStruct}
 use Rattle.runs.proofs.Theorem.{secrecy}
 use Rattle.runs.proofs.CodeRunLaws.{secrecy-of-calls}
 
@@ -122,7 +122,7 @@ abbrev adding : ℕ → List ℕ
 adding k = from2to1 5 0 (be16 1 ++ kStruct 3 5 1 (replicate 24 k) (8 ∷ []))
 
 abbrev deleting : List ℕ
-deleting = from2to1 6 1 (be16 2 ++ (be32 3 ++ (be32 4 ++ (be32 3 ++ be32 5))))
+deleting = numbered 10 6 1 (be16 2 ++ (be32 3 ++ (be32 4 ++ (be32 3 ++ be32 5))))
 
 abbrev out : List ℕ
 out = replicate 1032 0
@@ -162,7 +162,7 @@ abbrev outcome : ℕ → Outcome
 outcome k = receive (expecting 5) (adding k) (holds edition1 k) out
 
 answers : (outcome 1 .answer ≡ reply 24) × (outcome 7 .answer ≡ reply 24)
-unfolding receive receiveIn editionOf editionIn inState verdict firstFailed obey respond kindOf bodyOk fieldsFrom fieldsOk sizeAt requests requestsFrom requestAt work peersOf encode header keyRecord keyRecords words sound allHold headerOk countsOk sumsOk sumBefore uniqueOk newKey parityOk allOdd unusedOk allBelow allZero part ones
+unfolding receive receiveIn editionOf editionIn inState verdict firstFailed heard allPass obey respond kindOf bodyOk fieldsFrom fieldsOk sizeAt requests requestsFrom requestAt work peersOf encode header keyRecord keyRecords words sound allHold headerOk countsOk sumsOk sumBefore uniqueOk newKey parityOk allOdd unusedOk allBelow allZero part ones
 answers = (refl, refl)
 
 abbrev handed : ℕ → List Handed
@@ -186,7 +186,7 @@ Tallied L =
     × (tallyOf (deleted 1) (deleted 7) (world L 1) (world L 7) ≡ [])
 
 tallies : Tallied edition1
-unfolding tags tallyFrom allSeen seen next allTagged tagged without same receive receiveIn editionOf editionIn inState verdict firstFailed obey respond kindOf bodyOk fieldsFrom fieldsOk sizeAt requests requestsFrom requestAt work after result firstReason done placeWhere peersOf encode header keyRecord keyRecords words numbers entries entriesFrom sound allHold headerOk countsOk sumsOk sumBefore uniqueOk newKey parityOk allOdd unusedOk allBelow allZero part splice ones
+unfolding tags tallyFrom allSeen seen next allTagged tagged without same receive receiveIn editionOf editionIn inState verdict firstFailed heard allPass obey respond kindOf bodyOk fieldsFrom fieldsOk sizeAt requests requestsFrom requestAt work after result firstReason done placeWhere peersOf encode header keyRecord keyRecords words numbers entries entriesFrom sound allHold headerOk countsOk sumsOk sumBefore uniqueOk newKey parityOk allOdd unusedOk allBelow allZero part splice ones
 tallies = (refl, refl)
 
 -- with both deleted, the stores are equal byte for byte
@@ -208,7 +208,7 @@ unfolding alikeTest byteTest inStoreKey inRecordKey editionOf editionIn peersOf 
 alike-holds-2 = test-stores (holds edition2 1) (holds edition2 7) refl refl refl
 
 tallies-2 : Tallied edition2
-unfolding tags tallyFrom allSeen seen next allTagged tagged without same receive receiveIn editionOf editionIn inState verdict firstFailed obey respond kindOf bodyOk fieldsFrom fieldsOk sizeAt requests requestsFrom requestAt work after result firstReason done placeWhere peersOf encode header keyRecord keyRecords words numbers entries entriesFrom sound allHold headerOk countsOk sumsOk sumBefore uniqueOk newKey parityOk allOdd unusedOk allBelow allZero part splice ones
+unfolding tags tallyFrom allSeen seen next allTagged tagged without same receive receiveIn editionOf editionIn inState verdict firstFailed heard allPass obey respond kindOf bodyOk fieldsFrom fieldsOk sizeAt requests requestsFrom requestAt work after result firstReason done placeWhere peersOf encode header keyRecord keyRecords words numbers entries entriesFrom sound allHold headerOk countsOk sumsOk sumBefore uniqueOk newKey parityOk allOdd unusedOk allBelow allZero part splice ones
 tallies-2 = (refl, refl)
 
 no-trace-left-2 : Untraced edition2

@@ -1,8 +1,9 @@
 -- Document 01's numbers to work by hand: those marked *, as one list, T = end and start = end as change request 4 of document 02 has them, with the moments
--- beside them, and what is taken where several keys fit (change request 7). And those of edition 2 (change request 5).
+-- beside them, and what is taken where several keys fit (change request 7). Those of edition 2 (change request 5). And those of repeated transaction numbers (change
+-- request 3).
 -- Assumes nothing.
 use mathlib.Core.List.{List, [], _∷_, _++_, reverse}
-use mathlib.Core.Bool.{Bool, true, _&&_}
+use mathlib.Core.Bool.{Bool, true, false, _&&_}
 use Prim.Native.Nat.{ℕ, _+_}
 use lib.ListN.{length, replicate, drop}
 use Rattle.octets.specs.Bytes.{be16, be32, same}
@@ -13,6 +14,7 @@ use Rattle.store.specs.Store.{Entry, encode, header as storeHeader}
 use Rattle.store.specs.Search.{Finding, found, unfound, find}
 use Rattle.message.specs.Written.{header}
 use Rattle.session.specs.declared.Session.{Session}
+use Rattle.session.specs.Sessions.{opening, remembering}
 use Rattle.session.specs.Rules.{Outcome, receive}
 use Rattle.runs.specs.Calls.{replyOf}
 
@@ -20,10 +22,14 @@ use Rattle.runs.specs.Calls.{replyOf}
 
 -- an open session of 1 with 2 that expects number n
 abbrev pub expecting : ℕ → Session
-expecting n = record { state = 2; own = 1; peer = 2; next = 7; expected = n }
+expecting n = record { state = 2; own = 1; peer = 2; next = 7; expected = n; remembered = false; transaction = 0 }
+
+-- with the transaction number t
+abbrev pub numbered : ℕ → ℕ → ℕ → List ℕ → List ℕ
+numbered t n type body = header (20 + length body) 1 2 t n type ++ body
 
 abbrev pub from2to1 : ℕ → ℕ → List ℕ → List ℕ
-from2to1 n type body = header (20 + length body) 1 2 9 n type ++ body
+from2to1 n type body = numbered 9 n type body
 
 abbrev pub kStruct : ℕ → ℕ → ℕ → List ℕ → List ℕ → List ℕ
 kStruct issuer serial recipient kmac peers =
@@ -165,4 +171,53 @@ larger =
     ∷ (findsOn (0 ∷ encode edition1 []) 8 1 is (0 ∷ 1 ∷ []))
     ∷ (findsOn (drop 1 (encode edition2 [])) 8 1 is (0 ∷ 1 ∷ []))
     ∷ (findsOn (0 ∷ encode edition2 []) 8 1 is (0 ∷ 1 ∷ []))
+    ∷ []
+
+-- ---- transaction numbers
+
+-- a message with the transaction number t and the sequence number n: a delete of one key, delete all, one of no type, end of update
+abbrev pub deletes : ℕ → ℕ → ℕ → List ℕ
+deletes t n serial = numbered t n 1 (be16 1 ++ (be32 3 ++ be32 serial))
+
+abbrev pub deletesAllAs : ℕ → ℕ → List ℕ
+deletesAllAs t n = numbered t n 2 []
+
+abbrev pub unknownType : ℕ → ℕ → List ℕ
+unknownType t n = numbered t n 200 []
+
+abbrev pub endsUpdate : ℕ → ℕ → List ℕ
+endsUpdate t n = numbered t n 10 []
+
+abbrev pub brought : Session → List ℕ → Outcome
+brought e m = receive e m (encode edition1 (holding 4 1 2 (8 ∷ []) ∷ holding 5 1 2 (8 ∷ []) ∷ [])) (replicate 1032 0)
+
+-- a second message, over what the first left
+abbrev pub second : Outcome → List ℕ → Outcome
+second o m = receive (o .session) m (o .store) (o .output)
+
+-- RESPONSE, REQ-NUM and RESULTs, the state, and what is remembered
+abbrev pub recalls : Bool → ℕ → List ℕ
+recalls true n = 1 ∷ n ∷ []
+recalls false n = 0 ∷ n ∷ []
+
+abbrev pub tells : Outcome → List ℕ
+tells o = drop 20 (replyOf (o .answer) (o .output)) ++ (o .session .state ∷ recalls (o .session .remembered) (o .session .transaction))
+
+unfoldable pub transactions : List Example
+transactions =
+    -- two deletes with one number: 0, then 10 and closed
+    (tells (brought (expecting 5) (deletes 9 5 4)) is (0 ∷ 0 ∷ 1 ∷ 0 ∷ 2 ∷ 1 ∷ 9 ∷ []))
+    ∷ (tells (second (brought (expecting 5) (deletes 9 5 4)) (deletes 9 6 5)) is (10 ∷ 0 ∷ 0 ∷ 0 ∷ 1 ∷ 9 ∷ []))
+    -- with two numbers: 0 and 0
+    ∷ (tells (second (brought (expecting 5) (deletes 9 5 4)) (deletes 8 6 5)) is (0 ∷ 0 ∷ 1 ∷ 0 ∷ 2 ∷ 1 ∷ 8 ∷ []))
+    -- the number 0 in the first message after opening: worked, and remembered as any other
+    ∷ (tells (brought (opening (remembering (expecting 9) 0) 4) (deletesAllAs 0 5)) is (0 ∷ 0 ∷ 0 ∷ 2 ∷ 1 ∷ 0 ∷ []))
+    ∷ (tells (brought (remembering (expecting 5) 0) (deletesAllAs 0 5)) is (10 ∷ 0 ∷ 0 ∷ 0 ∷ 1 ∷ 0 ∷ []))
+    -- a session that remembers 9: another number is worked, and end of update with 9 is answered 10
+    ∷ (tells (brought (remembering (expecting 5) 9) (deletesAllAs 10 5)) is (0 ∷ 0 ∷ 0 ∷ 2 ∷ 1 ∷ 10 ∷ []))
+    ∷ (tells (brought (remembering (expecting 5) 9) (endsUpdate 9 5)) is (10 ∷ 0 ∷ 0 ∷ 0 ∷ 1 ∷ 9 ∷ []))
+    ∷ (tells (brought (remembering (expecting 5) 9) (endsUpdate 10 5)) is (0 ∷ 1 ∷ 10 ∷ []))
+    -- after RESPONSE 1 the number is remembered, and after 9 it is not
+    ∷ (tells (second (brought (expecting 5) (unknownType 9 5)) (unknownType 9 6)) is (10 ∷ 0 ∷ 0 ∷ 0 ∷ 1 ∷ 9 ∷ []))
+    ∷ (tells (brought (remembering (expecting 5) 9) (unknownType 10 6)) is (9 ∷ 0 ∷ 0 ∷ 0 ∷ 1 ∷ 9 ∷ []))
     ∷ []

@@ -1,7 +1,9 @@
+pub mod TestLaws
 pub mod HeaderLaws
 pub mod SessionLaws
 pub mod OutcomeLaws
 pub mod RuleLaws
 pub mod StateLaws
 pub mod Theorems
+pub mod TransactionLaws
 pub mod AnswerLaws

@@ -1,12 +1,12 @@
 -- What a message leaves, step by step from the work of a command to the call.
 -- Assumes nothing.
 use mathlib.Core.Path.{_≡_, refl, sym, ap, ap₂, _∙_, subst}
-use mathlib.Core.Bool.{Bool, true, false, cond}
-use mathlib.Core.List.{List, [], _++_}
+use mathlib.Core.Bool.{Bool, true, false, not, cond}
+use mathlib.Core.List.{List, [], _∷_, _++_}
 use Prim.Native.Nat.{ℕ, _+_, _≤_, _<_}
 use native.Mathlib.Omega.{arith}
 use lib.ListN.{length}
-use borrow.Author.Tests.{eq-eqb, ne-eqb, le-leb, lt-leb}
+use borrow.Author.Tests.{ne-eqb, le-leb, lt-leb}
 use Rattle.octets.specs.Bytes.{splice}
 use Rattle.octets.proofs.SpliceLaws.{splice-head}
 use Rattle.refusal.specs.House.{houseNumber}
@@ -29,9 +29,10 @@ use Rattle.message.specs.Written.{replyHead}
 use Rattle.session.specs.declared.Session.{Session}
 use Rattle.session.specs.declared.Received.{Received}
 use Rattle.session.specs.declared.Received.the-variants as received-as
-use Rattle.session.specs.Sessions.{Closed, Open, closing, replied}
-use Rattle.session.specs.Rules.{Outcome, refuse, respond, Verdict, failed, passed, firstFailed, typeTest, verdict, obey, judged, whileWaiting, inState, receiveIn, receive, reply, Does}
+use Rattle.session.specs.Sessions.{Closed, Open, closing, remembering, replied}
+use Rattle.session.specs.Rules.{Outcome, refuse, respond, test, headerTests, numberTests, repeats, Verdict, failed, passed, firstFailed, allPass, typeTest, verdict, heard, obey, judged, whileWaiting, inState, receiveIn, receive, reply, Does}
 use Rattle.session.specs.Parts.{Faults, Refuses, Reports, workIfSound}
+use Rattle.session.proofs.TestLaws.{tests-pass, header-fails, heard-old, heard-new}
 
 -- the same outcome under another name
 pub does-as : {o o' : Outcome} {answer : Received} {session : Session} {store output : List ℕ} → o ≡ o' → Does o answer session store output → Does o' answer session store output
@@ -107,17 +108,33 @@ module _ (L : Limits) (e : Session) (m s out : List ℕ) where
   -- ---- the tests before it
 
   module _ (r : ℕ) (f : Faults e m r) where
-    pub fault-judged : (r ≡ 0 → ⊥) → respond r [] Closed e m s out ≡ judged (verdict L e m s) L e m s out
+    pub fault-judged : (r ≡ 0 → ⊥) → respond r [] Closed e m s out ≡ judged (verdict L e m s) L (heard e m) m s out
     unfolding verdict
-    fault-judged h = sym (ap (λ (v : Verdict). judged v L e m s out) (f .by (typeTest (kind m) L m s)) ∙ simp (ne-eqb r 0 h))
+    fault-judged h =
+        sym (ap₂ (λ (v : Verdict) (d : Session). judged v L d m s out) (f .by _) (heard-old e m (header-fails e m r f h))
+        ∙ simp (ne-eqb r 0 h))
 
-    pub header-judged : r ≡ 0 → judged (typeTest (kind m) L m s) L e m s out ≡ judged (verdict L e m s) L e m s out
+  -- a message past the header tests, to a session that remembers its number
+  module _ (h : allPass (headerTests e m) ≡ true) (d : Session) (q : d ≡ remembering e (transaction m)) where
+    number-judged : (b : Bool) → repeats e (transaction m) ≡ b
+        → judged (firstFailed (test (not b) 10 Closed ∷ []) (typeTest (kind m) L m s)) L d m s out ≡ judged (verdict L e m s) L (heard e m) m s out
     unfolding verdict
-    header-judged h = sym (ap (λ (v : Verdict). judged v L e m s out) (f .by (typeTest (kind m) L m s)) ∙ simp (eq-eqb r 0 h))
+    number-judged b n =
+        ap₂ (λ (v : Verdict) (x : Session). judged v L x m s out)
+        (ap (λ (c : Bool). firstFailed (test (not c) 10 Closed ∷ []) (typeTest (kind m) L m s)) (sym n) ∙ sym (tests-pass (headerTests e m) h (firstFailed (numberTests e m) (typeTest (kind m) L m s))))
+        (q ∙ sym (heard-new e m h))
+
+    pub repeated-judged : repeats e (transaction m) ≡ true → respond 10 [] Closed d m s out ≡ judged (verdict L e m s) L (heard e m) m s out
+    unfolding firstFailed
+    repeated-judged = number-judged true
+
+    pub type-judged : repeats e (transaction m) ≡ false → judged (typeTest (kind m) L m s) L d m s out ≡ judged (verdict L e m s) L (heard e m) m s out
+    unfolding firstFailed
+    type-judged = number-judged false
 
   -- ---- the refusals
 
-  pub open-long : 20 ≤ length m → judged (verdict L e m s) L e m s out ≡ inState Open L e m s out
+  pub open-long : 20 ≤ length m → judged (verdict L e m s) L (heard e m) m s out ≡ inState Open L e m s out
   unfolding inState
   open-long h = simp (le-leb 20 (length m) h)
 

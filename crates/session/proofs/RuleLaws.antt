@@ -1,24 +1,25 @@
 -- What a verdict tells of its message, and the ways that a message can take.
 -- Assumes nothing.
 use mathlib.Core.Path.{_≡_, refl}
-use mathlib.Core.Bool.{Bool, true, false, _||_, not, cond}
+use mathlib.Core.Bool.{Bool, true, false, _&&_, not, cond}
 use mathlib.Core.List.{List, [], _∷_}
 use Prim.Native.Nat.{ℕ}
 use lib.Dec.{eqb, leb}
 use lib.ListN.{length}
+use borrow.Author.Tests.{eqb-false, not-true}
+use Rattle.octets.proofs.BoolLaws.{and-left, and-right}
 use Rattle.store.specs.declared.Limits.{Limits}
 use Rattle.store.specs.declared.Edition.{Edition}
 use Rattle.store.specs.declared.Edition.the-variants.{Known, Unknown}
 use Rattle.store.specs.Layout.{editionOf}
-use Rattle.store.specs.Store.{sound}
 use Rattle.message.specs.declared.Task.{Task}
 use Rattle.message.specs.declared.Kind.{Kind}
 use Rattle.message.specs.declared.Kind.the-variants.{Asks, SessionInit, Other}
-use Rattle.message.specs.Header.{version, receiver, sender, sequence, kind}
+use Rattle.message.specs.Header.{transaction, sequence, kind}
 use Rattle.message.specs.Body.{bodyOk}
 use Rattle.session.specs.declared.Session.{Session}
 use Rattle.session.specs.Sessions.{State, Closed, Waiting, Open, stateOf, closing, opening}
-use Rattle.session.specs.Rules.{opened, Outcome, refuse, respond, Test, test, lengthOk, asksStore, Verdict, failed, passed, firstFailed, typeTest, verdict, obey, judged, opens, whileWaiting, inState, receiveIn, receive}
+use Rattle.session.specs.Rules.{opened, Outcome, refuse, respond, Test, test, lengthOk, headerTests, repeats, numberTests, bodyTests, Verdict, failed, passed, firstFailed, allPass, typeTest, verdict, heard, obey, judged, opens, whileWaiting, inState, receiveIn, receive}
 
 -- ---- a verdict
 
@@ -28,40 +29,52 @@ pub record Passed (m : List ℕ) (task : Task) : Type 0 where
   pub kind-is : kind m ≡ Asks task
   pub body-ok : bodyOk task m ≡ true
 
--- a test that fails gives a RESPONSE other than 0
-unfoldable pub Says : List ℕ → Verdict → Type 0
-Says m (failed response then) = eqb response 0 ≡ false
-Says m (passed task) = Passed m task
+-- a test that fails gives a RESPONSE other than 0, and 10 for a repeated transaction number only
+pub record Failed (e : Session) (m : List ℕ) (response : ℕ) : Type 0 where
+  pub not-zero : eqb response 0 ≡ false
+  pub ten : response ≡ 10 → repeats e (transaction m) ≡ true
 
--- what holds of the RESPONSE of a test and, where the test holds, of the verdict of those behind it
-row : (P : Verdict → Type 0) (b : Bool) (response : ℕ) (then : State) (ts : List Test) (v : Verdict) → P (failed response then) → (b ≡ true → P (firstFailed ts v))
-    → P (firstFailed (test b response then ∷ ts) v)
-unfolding firstFailed
-row P true response then ts v p q = q refl
-row P false response then ts v p q = p
+unfoldable pub Says : Session → List ℕ → Verdict → Type 0
+Says e m (failed response then) = Failed e m response
+Says e m (passed task) = Passed m task
 
-module _ (L : Limits) (m s : List ℕ) (l : lengthOk m ≡ true) where
-  typeTest-says : (k : Kind) → kind m ≡ k → Says m (typeTest k L m s)
+other-failed : (e : Session) (m : List ℕ) (response : ℕ) → eqb response 0 ≡ false → eqb response 10 ≡ false → Failed e m response
+other-failed e m response h k = record { not-zero = h; ten = λ q. absurd (eqb-false response 10 k q) }
+
+-- the RESPONSEs of a list of tests are neither 0 nor 10
+plain : List Test → Bool
+plain [] = true
+plain (test b response then ∷ ts) = not (eqb response 0) && (not (eqb response 10) && plain ts)
+
+-- what such a list says, and, where all hold, what stands behind it
+tests-say : (e : Session) (m : List ℕ) (ts : List Test) (v : Verdict) → plain ts ≡ true → (allPass ts ≡ true → Says e m v) → Says e m (firstFailed ts v)
+unfolding Says plain allPass firstFailed
+tests-say e m [] v p q = q refl
+tests-say e m (test true response then ∷ ts) v p q =
+    tests-say e m ts v (and-right (not (eqb response 10)) (plain ts) (and-right (not (eqb response 0)) (not (eqb response 10) && plain ts) p)) q
+tests-say e m (test false response then ∷ ts) v p q =
+    other-failed e m response (not-true (eqb response 0) (and-left (not (eqb response 0)) (not (eqb response 10) && plain ts) p))
+    (not-true (eqb response 10) (and-left (not (eqb response 10)) (plain ts) (and-right (not (eqb response 0)) (not (eqb response 10) && plain ts) p)))
+
+module _ (L : Limits) (e : Session) (m s : List ℕ) where
+  -- the row of the transaction number
+  number-says : (n : Bool) → repeats e (transaction m) ≡ n → (then : State) (v : Verdict) → Says e m v → Says e m (firstFailed (test (not n) 10 then ∷ []) v)
   unfolding Says firstFailed
-  typeTest-says (Asks task) q =
-      row (Says m) (bodyOk task m) 11 Closed (test (not (asksStore task) || sound L s) 6 Open ∷ []) (passed task) refl
-      (λ b. row (Says m) (not (asksStore task) || sound L s) 6 Open [] (passed task) refl (λ h. record { length-ok = l; kind-is = q; body-ok = b }))
-  typeTest-says SessionInit q = refl
-  typeTest-says Other q = refl
+  number-says true q then v p = record { not-zero = refl; ten = λ z. q }
+  number-says false q then v p = p
 
-pub verdict-says : (L : Limits) (e : Session) (m s : List ℕ) → Says m (verdict L e m s)
-unfolding verdict Says firstFailed
-verdict-says L e m s =
-    let v : Verdict = typeTest (kind m) L m s in
-    let t5 : List Test = test (eqb (sequence m) (e .expected)) 9 Closed ∷ [] in
-    let t4 : List Test = test (eqb (sender m) (e .peer)) 3 Closed ∷ t5 in
-    let t3 : List Test = test (eqb (receiver m) (e .own)) 4 Closed ∷ t4 in
-    let t2 : List Test = test (eqb (version m) 2) 5 Closed ∷ t3 in
-    row (Says m) (lengthOk m) 2 Closed t2 v refl
-    (λ l. row (Says m) (eqb (version m) 2) 5 Closed t3 v refl
-    (λ h. row (Says m) (eqb (receiver m) (e .own)) 4 Closed t4 v refl
-    (λ h. row (Says m) (eqb (sender m) (e .peer)) 3 Closed t5 v refl
-    (λ h. row (Says m) (eqb (sequence m) (e .expected)) 9 Closed [] v refl (λ h. typeTest-says L m s l (kind m) refl)))))
+  typeTest-says : lengthOk m ≡ true → (k : Kind) → kind m ≡ k → Says e m (typeTest k L m s)
+  unfolding Says plain allPass
+  typeTest-says l (Asks task) q =
+      tests-say e m (bodyTests task L m s) (passed task) refl (λ h. record { length-ok = l; kind-is = q; body-ok = and-left (bodyOk task m) _ h })
+  typeTest-says l SessionInit q = other-failed e m 1 refl refl
+  typeTest-says l Other q = other-failed e m 1 refl refl
+
+  pub verdict-says : Says e m (verdict L e m s)
+  unfolding verdict plain allPass
+  verdict-says =
+      tests-say e m (headerTests e m) (firstFailed (numberTests e m) (typeTest (kind m) L m s)) refl (λ h.
+      number-says (repeats e (transaction m)) refl _ (typeTest (kind m) L m s) (typeTest-says (and-left (lengthOk m) _ h) (kind m) refl))
 
 -- ---- the ways of a message: what holds at the end of each holds of what the message leaves
 
@@ -69,13 +82,13 @@ module _ (P : Outcome → Type 0) (e : Session) (m s out : List ℕ)
     (at-refusal : (n : ℕ) → eqb n 5 ≡ false → P (refuse n e s out))
     (at-no-init : P (refuse 5 (closing e) s out))
     (at-opened : P (record { answer = opened; session = opening e (sequence m); store = s; output = out }))
-    (at-failed : (response : ℕ) (then : State) → eqb response 0 ≡ false → P (respond response [] then e m s out))
-    (at-passed : (L : Limits) (task : Task) → leb 20 (length m) ≡ true → Passed m task → P (obey L task e m s out)) where
+    (at-failed : (response : ℕ) (then : State) → Failed e m response → P (respond response [] then (heard e m) m s out))
+    (at-passed : (L : Limits) (task : Task) → leb 20 (length m) ≡ true → Passed m task → P (obey L task (heard e m) m s out)) where
   either : (b : Bool) (x y : Outcome) → (b ≡ true → P x) → P y → P (cond b x y)
   either true x y p q = p refl
   either false x y p q = q
 
-  by-verdict : (L : Limits) → leb 20 (length m) ≡ true → (v : Verdict) → Says m v → P (judged v L e m s out)
+  by-verdict : (L : Limits) → leb 20 (length m) ≡ true → (v : Verdict) → Says e m v → P (judged v L (heard e m) m s out)
   unfolding Says
   by-verdict L l (failed response then) h = at-failed response then h
   by-verdict L l (passed task) h = at-passed L task l h
@@ -88,7 +101,7 @@ module _ (P : Outcome → Type 0) (e : Session) (m s out : List ℕ)
       (λ l. either (opens e m) (record { answer = opened; session = opening e (sequence m); store = s; output = out }) (refuse 5 (closing e) s out) (λ o. at-opened) at-no-init)
       (at-refusal 4 refl)
   by-state L Open =
-      either (leb 20 (length m)) (judged (verdict L e m s) L e m s out) (refuse 4 e s out) (λ l. by-verdict L l (verdict L e m s) (verdict-says L e m s)) (at-refusal 4 refl)
+      either (leb 20 (length m)) (judged (verdict L e m s) L (heard e m) m s out) (refuse 4 e s out) (λ l. by-verdict L l (verdict L e m s) (verdict-says L e m s)) (at-refusal 4 refl)
 
   by-edition : (E : Edition) → P (receiveIn E e m s out)
   unfolding receiveIn

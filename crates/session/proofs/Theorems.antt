@@ -21,7 +21,7 @@ use Rattle.message.proofs.BodyLaws.{listed}
 use Rattle.command.proofs.WorkLaws.{results-length}
 use Rattle.session.specs.declared.Session.{Session}
 use Rattle.session.specs.Sessions.{closing, Beginning, beginOutput}
-use Rattle.session.specs.Rules.{Answered, reply, refused, Outcome, refuse, respond, obey, receive}
+use Rattle.session.specs.Rules.{Answered, reply, refused, Outcome, refuse, respond, heard, obey, receive}
 use Rattle.session.specs.Claims.{RefusalWritesNothing, OnlyZeroChangesStore, TornLeavesStore, RefusalLeavesSession, OnlyRepliesWrite, ReplyLength}
 use Rattle.session.proofs.RuleLaws.{Passed, receive-ends}
 
@@ -40,12 +40,12 @@ unfolding refuse respond obey
 quiet e m s out =
     receive-ends (Quiet s out) e m s out (λ n h. record { store-kept = λ f. refl; output-kept = λ f. refl })
     (record { store-kept = λ f. refl; output-kept = λ f. refl }) (record { store-kept = λ f. refl; output-kept = λ f. refl })
-    (λ response then h. replies s out (respond response [] then e m s out) 23 refl) (λ L task l h. obeyed L task)
+    (λ response then h. replies s out (respond response [] then (heard e m) m s out) 23 refl) (λ L task l h. obeyed (heard e m) L task)
   where
-    obeyed : (L : Limits) (task : Task) → Quiet s out (obey L task e m s out)
-    obeyed L (Requests k) = replies s out (obey L (Requests k) e m s out) _ refl
-    obeyed L DeleteAll = replies s out (obey L DeleteAll e m s out) 23 refl
-    obeyed L EndOfUpdate = record { store-kept = λ f. refl; output-kept = λ f. refl }
+    obeyed : (d : Session) (L : Limits) (task : Task) → Quiet s out (obey L task d m s out)
+    obeyed d L (Requests k) = replies s out (obey L (Requests k) d m s out) _ refl
+    obeyed d L DeleteAll = replies s out (obey L DeleteAll d m s out) 23 refl
+    obeyed d L EndOfUpdate = record { store-kept = λ f. refl; output-kept = λ f. refl }
 
 pub only-replies-write : OnlyRepliesWrite
 only-replies-write = record { of-store = λ e m s out. quiet e m s out .store-kept; of-output = λ e m s out. quiet e m s out .output-kept }
@@ -80,7 +80,7 @@ only-zero-changes-store =
     record {
       kept = λ e m s out n.
           receive-ends (Kept s n) e m s out (λ k h. record { kept = λ q f. refl }) (record { kept = λ q f. refl }) (record { kept = λ q f. refl })
-          (λ response then h. record { kept = λ q f. refl }) (λ L task l h. obey-zero e m s out n L task) .kept;
+          (λ response then h. record { kept = λ q f. refl }) (λ L task l h. obey-zero (heard e m) m s out n L task) .kept;
     }
 
 -- ---- a torn message
@@ -130,13 +130,13 @@ leaves e m s out n =
     (λ k h. record { as-it-was = λ q f. refl; closed = λ q f. let j : k ≡ n = cc in absurd (eqb-false k 5 h (j ∙ f)) })
     (record { as-it-was = λ q f. let j : 5 ≡ n = cc in absurd (f (sym j)); closed = λ q f. refl })
     (not-refused e n _ (λ q. let z : _≡_ {A = ℕ} 0 1 = cc in omega arith))
-    (λ response then h. not-refused e n (respond response [] then e m s out) (λ q. no-reply _ n 23 q refl))
-    (λ L task l h. obeyed L task)
+    (λ response then h. not-refused e n (respond response [] then (heard e m) m s out) (λ q. no-reply _ n 23 q refl))
+    (λ L task l h. obeyed (heard e m) L task)
   where
-    obeyed : (L : Limits) (task : Task) → Leaves e n (obey L task e m s out)
-    obeyed L (Requests k) = not-refused e n (obey L (Requests k) e m s out) (λ q. no-reply _ n _ q refl)
-    obeyed L DeleteAll = not-refused e n (obey L DeleteAll e m s out) (λ q. no-reply _ n 23 q refl)
-    obeyed L EndOfUpdate = not-refused e n (obey L EndOfUpdate e m s out) (λ q. let z : _≡_ {A = ℕ} 0 1 = cc in omega arith)
+    obeyed : (d : Session) (L : Limits) (task : Task) → Leaves e n (obey L task d m s out)
+    obeyed d L (Requests k) = not-refused e n (obey L (Requests k) d m s out) (λ q. no-reply _ n _ q refl)
+    obeyed d L DeleteAll = not-refused e n (obey L DeleteAll d m s out) (λ q. no-reply _ n 23 q refl)
+    obeyed d L EndOfUpdate = not-refused e n (obey L EndOfUpdate d m s out) (λ q. let z : _≡_ {A = ℕ} 0 1 = cc in omega arith)
 
 pub refusal-leaves-session : RefusalLeavesSession
 refusal-leaves-session =
@@ -162,15 +162,15 @@ long e m s out n =
     receive-ends (Long n) e m s out (λ k h. not-replied n (refuse k e s out) (no-reply _ k n refl))
     (not-replied n (refuse 5 (closing e) s out) (no-reply _ 5 n refl))
     (not-replied n _ (λ q. let z : _≡_ {A = ℕ} 0 1 = cc in omega arith))
-    (λ response then h. few-results n 0 (respond response [] then e m s out) refl (lit≤ tt))
-    (λ L task l h. obeyed L task h)
+    (λ response then h. few-results n 0 (respond response [] then (heard e m) m s out) refl (lit≤ tt))
+    (λ L task l h. obeyed (heard e m) L task h)
   where
-    obeyed : (L : Limits) (task : Task) → Passed m task → Long n (obey L task e m s out)
-    obeyed L (Requests k) h =
+    obeyed : (d : Session) (L : Limits) (task : Task) → Passed m task → Long n (obey L task d m s out)
+    obeyed d L (Requests k) h =
         let c = requestNumber m in
-        few-results n c (obey L (Requests k) e m s out) (ap (λ (x : ℕ). reply (23 + x)) (results-length L (e .own) k m c 22 (entries L s))) (listed k m (h .body-ok) .few)
-    obeyed L DeleteAll h = few-results n 0 (obey L DeleteAll e m s out) refl (lit≤ tt)
-    obeyed L EndOfUpdate h = not-replied n (obey L EndOfUpdate e m s out) (λ q. let z : _≡_ {A = ℕ} 0 1 = cc in omega arith)
+        few-results n c (obey L (Requests k) d m s out) (ap (λ (x : ℕ). reply (23 + x)) (results-length L (d .own) k m c 22 (entries L s))) (listed k m (h .body-ok) .few)
+    obeyed d L DeleteAll h = few-results n 0 (obey L DeleteAll d m s out) refl (lit≤ tt)
+    obeyed d L EndOfUpdate h = not-replied n (obey L EndOfUpdate d m s out) (λ q. let z : _≡_ {A = ℕ} 0 1 = cc in omega arith)
 
 pub reply-length : ReplyLength
 reply-length = record { from = λ e m s out n. long e m s out n .from; to = λ e m s out n. long e m s out n .to }

@@ -1,15 +1,19 @@
--- What is claimed of messages beside the contracts. proofs/Theorems.antt and proofs/AnswerLaws.antt have a proof of each claim.
+-- What is claimed of messages beside the contracts. proofs/Theorems.antt, proofs/TransactionLaws.antt and proofs/AnswerLaws.antt have a proof of each claim.
 -- Assumes nothing.
 use mathlib.Core.Path.{_≡_}
+use mathlib.Core.Bool.{Bool, true, false}
 use mathlib.Core.List.{List}
 use Prim.Native.Nat.{ℕ, _≤_, _<_}
 use lib.ListN.{length, getD, take}
-use Rattle.message.specs.Header.{messageLength}
+use Rattle.store.specs.declared.Limits.{Limits}
+use Rattle.store.specs.declared.Edition.the-variants.{Known}
+use Rattle.store.specs.Layout.{editionOf}
+use Rattle.message.specs.Header.{messageLength, transaction}
 use Rattle.session.specs.declared.Session.{Session}
 use Rattle.session.specs.declared.Begun.{Begun}
 use Rattle.session.specs.declared.Received.{Received}
-use Rattle.session.specs.Sessions.{closing, begin, refuses, beginOutput, begunAs}
-use Rattle.session.specs.Rules.{receive, reply, refused, receivedAs}
+use Rattle.session.specs.Sessions.{Closed, Open, codeOf, closing, begin, begins, refuses, beginOutput, begunAs}
+use Rattle.session.specs.Rules.{Outcome, headerTests, allPass, receive, reply, opened, refused, receivedAs}
 
 -- the paper's numbers are those of one answer only: a contract that fixes them fixes the answer
 pub record OneAnswer : Type 0 where
@@ -46,3 +50,62 @@ pub record OnlyRepliesWrite : Type 0 where
 pub record ReplyLength : Type 0 where
   pub from : (e : Session) (m s out : List ℕ) (n : ℕ) → receive e m s out .answer ≡ reply n → 23 ≤ n
   pub to : (e : Session) (m s out : List ℕ) (n : ℕ) → receive e m s out .answer ≡ reply n → n ≤ 523
+
+-- ---- the transaction number of the last message that passed the sequence test (document 02, change request 3)
+
+-- whether a session remembers one, and which
+pub record Recalls (remembered : Bool) (number : ℕ) (e : Session) : Type 0 where
+  pub remembered-is : e .remembered ≡ remembered
+  pub number-is : e .transaction ≡ number
+
+-- the same session beside another number
+abbrev pub beside : Session → ℕ → Session
+beside e n =
+    record { state = e .state; own = e .own; peer = e .peer; next = e .next; expected = e .expected; remembered = e .remembered; transaction = n }
+
+-- two outcomes that differ in the session's number at most
+pub record SameBeside (o o' : Outcome) : Type 0 where
+  pub same-answer : o .answer ≡ o' .answer
+  pub same-session : o .session ≡ beside (o' .session) (o .session .transaction)
+  pub same-store : o .store ≡ o' .store
+  pub same-output : o .output ≡ o' .output
+
+-- a message past the header tests, to an open session, is remembered whatever it is answered, and end of update too
+pub record HeardIsRemembered : Type 0 where
+  pub recalled : (e : Session) (m s out : List ℕ) → allPass (headerTests e m) ≡ true → ((n : ℕ) → receive e m s out .answer ≡ refused n → ⊥)
+      → (receive e m s out .answer ≡ opened → ⊥) → Recalls true (transaction m) (receive e m s out .session)
+
+-- where a header test fails, or the message is refused, what is remembered stays
+pub record NotHeard : Type 0 where
+  pub after-fault : (e : Session) (m s out : List ℕ) → allPass (headerTests e m) ≡ false → (receive e m s out .answer ≡ opened → ⊥)
+      → Recalls (e .remembered) (e .transaction) (receive e m s out .session)
+  pub after-refusal : (e : Session) (m s out : List ℕ) (n : ℕ) → receive e m s out .answer ≡ refused n → Recalls (e .remembered) (e .transaction) (receive e m s out .session)
+
+-- nothing is remembered of the session before
+pub record OpeningForgets : Type 0 where
+  pub of-begin : (own peer start : ℕ) (out : List ℕ) (e : Session) (n : ℕ) → begin own peer start out ≡ begins e n → Recalls false 0 e
+  pub of-message : (e : Session) (m s out : List ℕ) → receive e m s out .answer ≡ opened → Recalls false 0 (receive e m s out .session)
+
+-- where none is remembered, the number beside it means nothing
+pub record NoneIsNone : Type 0 where
+  pub any-number : (e : Session) (n : ℕ) (m s out : List ℕ) → e .remembered ≡ false → SameBeside (receive (beside e n) m s out) (receive e m s out)
+
+-- a reply of type 11 with RESPONSE 10 and no RESULT; the session is closed and the store kept
+pub record IsTen (s : List ℕ) (o : Outcome) : Type 0 where
+  pub answer-is : o .answer ≡ reply 23
+  pub type-is : getD (o .output) 19 0 ≡ 11
+  pub response-is : getD (o .output) 20 0 ≡ 10
+  pub closed : o .session .state ≡ codeOf Closed
+  pub store-kept : o .store ≡ s
+
+-- so of two messages past the header tests, one after the other and with one number, the second is answered 10, whatever the type, the body and the RESPONSE of either
+pub record RepeatedIsTen : Type 0 where
+  pub second : (e : Session) (m s out : List ℕ) → allPass (headerTests e m) ≡ true → ((n : ℕ) → receive e m s out .answer ≡ refused n → ⊥)
+      → (receive e m s out .answer ≡ opened → ⊥) → (e' : Session) → e' ≡ receive e m s out .session → e' .state ≡ codeOf Open
+      → (L : Limits) (m' s' out' : List ℕ) → editionOf (length s') ≡ Known L → 1032 ≤ length out' → 20 ≤ length m' → allPass (headerTests e' m') ≡ true
+      → transaction m' ≡ transaction m → IsTen s' (receive e' m' s' out')
+
+-- and no other is: RESPONSE 10 says that a number was remembered, and that the message has it
+pub record TenIsRepeated : Type 0 where
+  pub only : (e : Session) (m s out : List ℕ) (n : ℕ) → receive e m s out .answer ≡ reply n → getD (receive e m s out .output) 19 0 ≡ 11
+      → getD (receive e m s out .output) 20 0 ≡ 10 → Recalls true (transaction m) e

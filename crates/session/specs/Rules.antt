@@ -24,7 +24,7 @@ use Rattle.message.specs.Written.{replyBytes, initOk}
 use Rattle.session.specs.declared.Session.{Session}
 use Rattle.session.specs.declared.Received.{Received}
 use Rattle.session.specs.declared.Received.the-variants as received-as
-use Rattle.session.specs.Sessions.{State, Closed, Waiting, Open, stateOf, closing, opening, replied}
+use Rattle.session.specs.Sessions.{State, Closed, Waiting, Open, stateOf, closing, opening, remembering, replied}
 
 -- ---- what a message leaves
 
@@ -63,7 +63,7 @@ pub data Test : Type 0 where
 abbrev pub lengthOk : List ℕ → Bool
 lengthOk m = eqb (messageLength m) (length m) && leb (length m) 5000
 
--- those before the type (RESPONSE: 000, 5.3.15)
+-- those up to the sequence number (RESPONSE: 000, 5.3.15)
 abbrev pub headerTests : Session → List ℕ → List Test
 headerTests e m =
     test (lengthOk m) 2 Closed
@@ -72,6 +72,14 @@ headerTests e m =
     ∷ test (eqb (sender m) (e .peer)) 3 Closed
     ∷ test (eqb (sequence m) (e .expected)) 9 Closed
     ∷ []
+
+-- the number n is the one that is remembered (000, 5.4.2.5)
+abbrev pub repeats : Session → ℕ → Bool
+repeats e n = e .remembered && eqb n (e .transaction)
+
+-- that between the sequence number and the type
+abbrev pub numberTests : Session → List ℕ → List Test
+numberTests e m = test (not (repeats e (transaction m))) 10 Closed ∷ []
 
 -- delete all and end of update do not ask whether the store is sound
 abbrev pub asksStore : Task → Bool
@@ -103,7 +111,16 @@ typeTest SessionInit L m s = failed 1 Open
 typeTest Other L m s = failed 1 Open
 
 unfoldable pub verdict : Limits → Session → List ℕ → List ℕ → Verdict
-verdict L e m s = firstFailed (headerTests e m) (typeTest (kind m) L m s)
+verdict L e m s = firstFailed (headerTests e m) (firstFailed (numberTests e m) (typeTest (kind m) L m s))
+
+-- every test of a list holds
+unfoldable pub allPass : List Test → Bool
+allPass [] = true
+allPass (test b response then ∷ ts) = b && allPass ts
+
+-- the session that answers: it remembers the number of the last message that passed the sequence test
+unfoldable pub heard : Session → List ℕ → Session
+heard e m = cond (allPass (headerTests e m)) (remembering e (transaction m)) e
 
 -- ---- a message past all tests
 
@@ -140,7 +157,7 @@ whileWaiting e m s out =
 unfoldable pub inState : State → Limits → Session → List ℕ → List ℕ → List ℕ → Outcome
 inState Closed L e m s out = refuse 3 e s out
 inState Waiting L e m s out = cond (leb headerLength (length m)) (whileWaiting e m s out) (refuse 4 e s out)
-inState Open L e m s out = cond (leb headerLength (length m)) (judged (verdict L e m s) L e m s out) (refuse 4 e s out)
+inState Open L e m s out = cond (leb headerLength (length m)) (judged (verdict L e m s) L (heard e m) m s out) (refuse 4 e s out)
 
 unfoldable pub receiveIn : Edition → Session → List ℕ → List ℕ → List ℕ → Outcome
 receiveIn Unknown e m s out = refuse 1 e s out

@@ -1,7 +1,7 @@
 -- Sessions (document 01, "Sessions"): the state codes, the numbers that rise, and how a session begins.
 -- Assumes nothing.
 use mathlib.Core.Path.{_≡_}
-use mathlib.Core.Bool.{Bool, not, cond}
+use mathlib.Core.Bool.{Bool, true, false, not, cond}
 use mathlib.Core.List.{List}
 use Prim.Native.Nat.{ℕ, _+_, _%_}
 use lib.Dec.{leb, eqb}
@@ -35,11 +35,16 @@ up n = (n + 1) % 65536
 
 -- closed, with the numbers as they were
 abbrev pub closing : Session → Session
-closing e = record { state = codeOf Closed; own = e .own; peer = e .peer; next = e .next; expected = e .expected }
+closing e =
+    record { state = codeOf Closed; own = e .own; peer = e .peer; next = e .next; expected = e .expected; remembered = e .remembered; transaction = e .transaction }
 
--- opened by a session init with the number n
+-- opened by a session init with the number n; no transaction number is remembered, so the first message has none to differ from
 abbrev pub opening : Session → ℕ → Session
-opening e n = record { state = codeOf Open; own = e .own; peer = e .peer; next = e .next; expected = up n }
+opening e n = record { state = codeOf Open; own = e .own; peer = e .peer; next = e .next; expected = up n; remembered = false; transaction = 0 }
+
+-- with the transaction number n remembered (document 02, change request 3)
+abbrev pub remembering : Session → ℕ → Session
+remembering e n = record { state = e .state; own = e .own; peer = e .peer; next = e .next; expected = e .expected; remembered = true; transaction = n }
 
 -- the expected number rises where the session stays open
 abbrev pub expectedThen : State → ℕ → ℕ
@@ -49,7 +54,16 @@ expectedThen Open n = up n
 
 -- after a reply
 abbrev pub replied : Session → State → Session
-replied e then = record { state = codeOf then; own = e .own; peer = e .peer; next = up (e .next); expected = expectedThen then (e .expected) }
+replied e then =
+    record {
+      state = codeOf then;
+      own = e .own;
+      peer = e .peer;
+      next = up (e .next);
+      expected = expectedThen then (e .expected);
+      remembered = e .remembered;
+      transaction = e .transaction;
+    }
 
 -- ---- begin: H2, H6
 
@@ -65,7 +79,7 @@ unfoldable pub begin : ℕ → ℕ → ℕ → List ℕ → Beginning
 begin own peer start out =
     orRefuse (leb 1032 (length out)) 2
     (orRefuse (not (eqb own peer)) 6
-    (begins (record { state = codeOf Waiting; own = own; peer = peer; next = up start; expected = 0 }) 23))
+    (begins (record { state = codeOf Waiting; own = own; peer = peer; next = up start; expected = 0; remembered = false; transaction = 0 }) 23))
 
 -- what the output buffer holds afterwards
 abbrev pub beginOutput : Beginning → ℕ → ℕ → ℕ → List ℕ → List ℕ

@@ -4,10 +4,11 @@ ghost use Prim.Native.Nat.{_≤_};
 ghost use lib.ListN.{length};
 ghost use Rattle.store.specs.Layout.{total, Bounded};
 ghost use Rattle.refusal.specs.House.{houseNumber};
+ghost use Rattle.message.specs.Header.{kind};
 ghost use Rattle.message.specs.Body.{bodyOk};
 ghost use mathlib.Core.Bool.{true};
-ghost use Rattle.session.specs.Sessions.{Begins, Closed, Open, closing, opening, replied};
-ghost use Rattle.session.specs.Rules.{receive, receiveIn, inState, judged, typeTest, obey, Does};
+ghost use Rattle.session.specs.Sessions.{Begins, Closed, Open, closing, opening, remembering, replied};
+ghost use Rattle.session.specs.Rules.{receive, receiveIn, inState, judged, typeTest, repeats, obey, Does};
 ghost use Rattle.session.specs.Parts.{Refuses, Waits, Responds, Reports, workIfSound};
 use crate::header::header_fault;
 use crate::header::is_opening;
@@ -38,6 +39,9 @@ pub struct Session {
     pub peer: u32,
     pub next: u16,
     pub expected: u16,
+    // Whether a transaction number is remembered, and which: zero is one like another.
+    pub remembered: bool,
+    pub transaction: u32,
 }
 
 // What begin answers: the session and the length written.
@@ -82,6 +86,8 @@ impl Session {
 
     const STORE_UNSOUND: u8 = 6;
 
+    const TRANSACTION_MISMATCH: u8 = 10;
+
     const FORMAT_ERROR: u8 = 11;
 
     // ---- what becomes of a session
@@ -95,6 +101,8 @@ impl Session {
             peer: self.peer,
             next: self.next,
             expected: self.expected,
+            remembered: self.remembered,
+            transaction: self.transaction,
         }
     }
 
@@ -108,7 +116,18 @@ impl Session {
             peer: self.peer,
             next: self.next,
             expected,
+            remembered: false,
+            transaction: 0,
         }
+    }
+
+    fn remembering(self, number: u32) -> Session
+        ensures { λ r. ⌜ r ≡ remembering self number ⌝ }
+    {
+        let mut session = self;
+        session.remembered = true;
+        session.transaction = number;
+        session
     }
 
     // After a reply that leaves the session open.
@@ -123,6 +142,8 @@ impl Session {
             peer: self.peer,
             next,
             expected,
+            remembered: self.remembered,
+            transaction: self.transaction,
         }
     }
 
@@ -137,6 +158,8 @@ impl Session {
             peer: self.peer,
             next,
             expected: self.expected,
+            remembered: self.remembered,
+            transaction: self.transaction,
         }
     }
 
@@ -160,6 +183,8 @@ impl Session {
             peer,
             next,
             expected: 0,
+            remembered: false,
+            transaction: 0,
         };
         Begun::Made(session, HEAD)
     }
@@ -284,6 +309,28 @@ impl Session {
 
     // ---- receive
 
+    // A message whose header is right and whose transaction number is another than the last, by its type.
+    fn receive_typed(self, lim: Limits, m: &[u8], s: &mut [u8], out: &mut [u8]) -> Turn
+        requires { ⌜ (Bounded lim) × (length (now s) ≡ total lim) × (20 ≤ length (now m)) × (1032 ≤ length (now out)) ⌝ }
+        ensures { λ r. ⌜ Does (judged (typeTest (kind (now (m .entry))) lim (now (m .entry)) (now (s .entry))) lim self (now (m .entry)) (now (s .entry)) (now (out .entry))) (r .answer) (r .session) (now (s .exit)) (now (out .exit)) ⌝ }
+    {
+        match message::kind_of(m[TYPE_AT]) {
+            Kind::Asks(task) => self.perform(task, lim, m, s, out),
+            Kind::SessionInit => self.keep_with(Session::NOT_SUPPORTED, m, out),
+            Kind::Other => self.keep_with(Session::NOT_SUPPORTED, m, out),
+        }
+    }
+
+    // The number is the one that is remembered.
+    fn repeats(self, number: u32) -> bool
+        ensures { λ r. ⌜ r ≡ repeats self number ⌝ }
+    {
+        if !self.remembered {
+            return false;
+        }
+        number == self.transaction
+    }
+
     // A message to an open session. Refuses H4.
     fn receive_open(self, lim: Limits, m: &[u8], s: &mut [u8], out: &mut [u8]) -> Turn
         requires { ⌜ (Bounded lim) × (length (now s) ≡ total lim) × (1032 ≤ length (now out)) ⌝ }
@@ -296,11 +343,12 @@ impl Session {
         if fault != Session::DONE {
             return self.drop_with(fault, m, out);
         }
-        match message::kind_of(m[TYPE_AT]) {
-            Kind::Asks(task) => self.perform(task, lim, m, s, out),
-            Kind::SessionInit => self.keep_with(Session::NOT_SUPPORTED, m, out),
-            Kind::Other => self.keep_with(Session::NOT_SUPPORTED, m, out),
+        let number = octets::get32_at(m, TRANSACTION_AT);
+        let session = self.remembering(number);
+        if self.repeats(number) {
+            return session.drop_with(Session::TRANSACTION_MISMATCH, m, out);
         }
+        session.receive_typed(lim, m, s, out)
     }
 
     // A message with a store of an edition. Refuses H2, H3, H4, H5.

@@ -27,22 +27,22 @@ pub const OTHER: u32 = 0x55667788;
 const ODD: u32 = 0x01010101;
 
 // Message types (000, 5.3.3).
-const ADD_KEYS: u8 = 0;
+pub const ADD_KEYS: u8 = 0;
 
-const DELETE_KEYS: u8 = 1;
+pub const DELETE_KEYS: u8 = 1;
 
-const DELETE_ALL_KEYS: u8 = 2;
+pub const DELETE_ALL_KEYS: u8 = 2;
 
 const UPDATE_KEY_VALIDITIES: u8 = 3;
 
 const UPDATE_KEY_ENTITIES: u8 = 4;
 
 // The numbers of the two session inits, and of the first command.
-const OWN_START: u16 = 700;
+const OWN_START: u16 = 9;
 
-const CENTRE_START: u16 = 300;
+pub const CENTRE_START: u16 = 40;
 
-const FIRST: u16 = CENTRE_START + 1;
+pub const FIRST: u16 = CENTRE_START + 1;
 
 // The length of a message with no body.
 pub const LENGTH: u32 = 20;
@@ -67,6 +67,8 @@ fn begun(out: &mut [u8]) -> Session {
             peer: CENTRE,
             next: OWN_START,
             expected: 0,
+            remembered: false,
+            transaction: 0,
         },
     }
 }
@@ -82,7 +84,7 @@ pub fn opened(number: u16, s: &mut [u8]) -> Session {
 }
 
 // Delivers the first n bytes of m, prints the answer, and gives the session for the next.
-fn deliver(
+pub fn deliver(
     name: &[u8],
     session: Session,
     m: &[u8; MESSAGE_MOST],

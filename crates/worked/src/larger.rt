@@ -16,6 +16,7 @@ use crate::print::counts;
 use crate::print::found;
 use crate::print::header;
 use crate::print::nonzero;
+use crate::transactions::transactions;
 use crate::wire::Key;
 use crate::wire::OWN;
 use crate::wire::front;
@@ -138,6 +139,7 @@ pub fn larger(s: &mut [u8]) {
     more_peers(s);
     all_peers(s);
     searches(s);
+    transactions(s);
     as_edition_1(s);
     other_lengths(s);
 }

@@ -1,8 +1,9 @@
-// The worked numbers of document 01 that concern sessions and the store, with those of change requests 4, 5 and 7, a line for each case. Every store is built through messages.
+// The worked numbers of document 01 that concern sessions and the store, with those of change requests 3, 4, 5 and 7, a line for each case. Every store is built through messages.
 mod centre;
 mod larger;
 mod latest;
 mod print;
+mod transactions;
 mod wire;
 
 use centre::ISSUER;
@@ -28,6 +29,7 @@ use print::nonzero;
 use print::records;
 use store::editions::LENGTH_1;
 use store::editions::LENGTH_2;
+use transactions::transactions;
 use wire::Key;
 use wire::OWN;
 
@@ -247,6 +249,7 @@ fn smaller(s: &mut [u8]) {
     all_deleted(s);
     last_number(s);
     wrong_header(s);
+    transactions(s);
 }
 
 fn main() {

@@ -6,6 +6,7 @@ use octets::get16_at;
 use octets::get32_at;
 use refusal::Refusal;
 use session::Received;
+use session::Session;
 use store::Found;
 use store::KEYS_AT;
 use store::RECORD;
@@ -65,21 +66,49 @@ fn replied(reply: &[u8]) {
     bytes(reply, HEAD);
 }
 
-// The name, and what the reply says; nothing where there is no reply.
+fn refused(h: Refusal) {
+    text(b" H");
+    io::print_decimal(STDOUT_FILENO, refusal::house_number(h) as u64);
+}
+
+// The name, and what is answered.
 pub fn answered(name: &[u8], answer: Received, out: &[u8]) {
     text(name);
-    if let Received::Reply(n) = answer {
-        replied(front(out, n));
+    match answer {
+        Received::Reply(n) => replied(front(out, n)),
+        Received::Opened => text(b" opened"),
+        Received::Ended => text(b" ended"),
+        Received::Refused(h) => refused(h),
+    }
+    text(b"\n");
+}
+
+// ---- sessions
+
+fn state(code: u8) {
+    if code == Session::WAITING {
+        text(b" waiting");
+    } else if code == Session::OPEN {
+        text(b" open");
+    } else {
+        text(b" closed");
+    }
+}
+
+// The state, and what is remembered.
+pub fn session(e: Session) {
+    text(b"session:");
+    state(e.state);
+    text(b", last transaction");
+    if e.remembered {
+        number(e.transaction as u64);
+    } else {
+        text(b" none");
     }
     text(b"\n");
 }
 
 // ---- the store
-
-fn refused(h: Refusal) {
-    text(b" H");
-    io::print_decimal(STDOUT_FILENO, refusal::house_number(h) as u64);
-}
 
 // The name, and the place that a search finds with its end, or H and the refusal's number.
 pub fn found(name: &[u8], s: &[u8], peer: u32, t: u32) {

@@ -9,9 +9,7 @@ pub const OWN: u32 = 7;
 
 pub const CENTRE: u32 = 6;
 
-// The centre's transaction number, K-LENGTH, and a KMAC's words.
-const TRANSACTION: u32 = 1;
-
+// K-LENGTH, and a KMAC's words.
 const KEY_LENGTH: u8 = 24;
 
 const KMAC_WORDS: u16 = 6;
@@ -71,6 +69,7 @@ fn words(m: &mut [u8; MESSAGE_MOST], i: usize, v: u32, n: u16) -> usize {
     at
 }
 
+// The transaction number is the sequence number.
 pub fn header(
     m: &mut [u8; MESSAGE_MOST],
     length: u32,
@@ -82,7 +81,7 @@ pub fn header(
     let receiver_at = byte(m, version_at, VERSION);
     let sender_at = word(m, receiver_at, receiver);
     let transaction_at = word(m, sender_at, CENTRE);
-    let number_at = word(m, transaction_at, TRANSACTION);
+    let number_at = word(m, transaction_at, number as u32);
     let kind_at = half(m, number_at, number);
     byte(m, kind_at, kind)
 }

@@ -2,12 +2,14 @@
 
 use reference::refusal::H5;
 
+use crate::chain::Chain;
 use crate::compare::{buffers, numbers, Compared, Difference};
 use crate::coverage::{Call, Coverage};
 use crate::layout::KEYS_AT;
-use crate::library::{EndBytes, Library, SessionBytes};
+use crate::library::{EndBytes, Library, SessionBytes, NUMBER_AT, REMEMBERED_AT, UNUSED_AT};
 use crate::model;
 use crate::random::Random;
+use crate::repeated::{begun_keeps_the_rule, Exchange};
 use crate::wire::RESPONSE_AT;
 
 /// A failed call.
@@ -30,6 +32,7 @@ pub struct Both {
     pub library: Library,
     pub calls: u64,
     pub seen: Coverage,
+    chain: Chain,
 }
 
 impl Both {
@@ -38,6 +41,7 @@ impl Both {
             library: Library::new(),
             calls: 0,
             seen: Coverage::default(),
+            chain: Chain::default(),
         }
     }
 
@@ -63,15 +67,32 @@ impl Both {
         named(call, || {
             numbers("answer", answer.into(), got?.into())?;
             buffers("session", &session, &got_session)?;
-            buffers("output", &written, &got_out)
+            buffers("output", &written, &got_out)?;
+            match answer {
+                0.. => begun_keeps_the_rule(&got_session),
+                _ => Ok(()),
+            }
         })?;
         self.seen.answer(Call::Begin, answer);
+        if answer >= 0 {
+            self.chain.begun(&world.session, &session);
+        }
         world.session = session;
         Ok(answer)
     }
 
     /// Gives the reply, empty where there is none; the world has then what both left.
     pub fn receive(&mut self, world: &mut World, message: &[u8], out: &[u8]) -> Step<Vec<u8>> {
+        self.answered(world, message, out).map(|(_, reply)| reply)
+    }
+
+    /// Gives the answer too.
+    pub fn answered(
+        &mut self,
+        world: &mut World,
+        message: &[u8],
+        out: &[u8],
+    ) -> Step<(i32, Vec<u8>)> {
         self.calls += 1;
         let before = world.clone();
         let mut written = out.to_vec();
@@ -83,17 +104,31 @@ impl Both {
             &mut got_world.store,
             &mut got_out,
         );
+        let exchange = |out, after| Exchange {
+            before: &before.session,
+            message,
+            answer,
+            out,
+            after,
+        };
         let call = || receive_call(&before, message, out.len());
         named(call, || {
             numbers("answer", answer.into(), got?.into())?;
             buffers("session", &world.session, &got_world.session)?;
             buffers("store", &world.store, &got_world.store)?;
             buffers("output", &written, &got_out)?;
-            demand_1(&before, &got_world, answer, out, &got_out)
+            demand_1(&before, &got_world, answer, out, &got_out)?;
+            exchange(&got_out, &got_world.session).keeps_the_rule()
         })?;
         self.seen.received(&before.store, message, answer, &written);
+        let marks = self
+            .chain
+            .received(&exchange(&written, &world.session), &before.store);
+        for mark in marks {
+            self.seen.see(&before.store, mark);
+        }
         written.truncate(usize::try_from(answer).unwrap_or(0));
-        Ok(written)
+        Ok((answer, written))
     }
 
     /// Gives the answer, and what the library left at `end`.
@@ -239,17 +274,16 @@ pub fn named(
     })
 }
 
-/// The function, the session's state, the store's length and counts and the start of the message,
-/// for whoever looks for the fault.
+/// The function, the session's state and what it remembers, the store's length and counts and the
+/// start of the message, for whoever looks for the fault.
 pub fn receive_call(before: &World, message: &[u8], out: usize) -> String {
-    let head: String = message
-        .iter()
-        .take(48)
-        .map(|b| format!("{b:02x}"))
-        .collect();
-    let (state, length) = (before.session[0], message.len());
+    let head = hex(&message[..message.len().min(48)]);
+    let (state, flag) = (before.session[0], before.session[REMEMBERED_AT]);
+    let number = hex(&before.session[NUMBER_AT..UNUSED_AT]);
+    let session = format!("state {state}, remembered {flag} {number}");
     let lent = format!("{}, output of {out} bytes", store_of(&before.store));
-    format!("kmac_receive, state {state}, {lent}, message of {length} bytes, {head}")
+    let length = message.len();
+    format!("kmac_receive, {session}, {lent}, message of {length} bytes, {head}")
 }
 
 pub fn find_call(store: &[u8], peer: u32, t: u32) -> String {
@@ -259,10 +293,10 @@ pub fn find_call(store: &[u8], peer: u32, t: u32) -> String {
 
 /// The length and the first bytes of a store: edition and counts stand there.
 fn store_of(store: &[u8]) -> String {
-    let head: String = store
-        .iter()
-        .take(KEYS_AT)
-        .map(|b| format!("{b:02x}"))
-        .collect();
+    let head = hex(&store[..store.len().min(KEYS_AT)]);
     format!("store of {} bytes, {head}", store.len())
+}
+
+fn hex(bytes: &[u8]) -> String {
+    bytes.iter().map(|byte| format!("{byte:02x}")).collect()
 }

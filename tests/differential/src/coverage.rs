@@ -10,6 +10,7 @@ use reference::refusal::{H1, H12};
 use reference::store::{Edition, EDITIONS};
 
 use crate::layout::{fits, has_other_header, held, period};
+use crate::repeated::BEFORE_REPEATED;
 use crate::wire::{RESPONSE_AT, RESULTS_AT, TYPE_AT};
 
 #[derive(Clone, Copy, PartialEq, Eq, PartialOrd, Ord, Debug)]
@@ -45,6 +46,32 @@ pub enum Mark {
     FoundBehindEarlier,
     /// A search that took the first of several that have the latest end.
     FoundFirstOfEqual,
+    /// RESPONSE 10 to the number of a message that had this RESPONSE.
+    RepeatedAfter(u8),
+    /// RESPONSE 10 where, had the number been another, this RESPONSE were due.
+    RepeatedThen(u8),
+    /// This RESPONSE to a message whose number was the remembered one.
+    BeforeRepeated(u8),
+    RepeatedWithOtherType,
+    RepeatedWithOtherBody,
+    RepeatedZero,
+    RepeatedByEnd,
+    /// RESPONSE 10 with the expected number beside the wrap: 65,535 or 0.
+    RepeatedAtWrap,
+    /// RESPONSE 10 in a reply with the own number 65,535.
+    RepeatedAtOwnWrap,
+    /// RESPONSE 10 where the byte that says that a number is remembered is neither 0 nor 1.
+    RepeatedByOddFlag,
+    /// A first message with the number 0, where none is remembered and the number is 0.
+    TakenZeroFirst,
+    /// A message with the number that stands in a session that remembers none; it is not 0.
+    TakenBesideNoFlag,
+    /// A first message with the number that the session remembered before it was begun or opened.
+    TakenAfterForgotten,
+    /// A first message with the number of one that was answered 9 in the session before.
+    TakenAfter9,
+    /// A session init that opened a session that remembered a number.
+    OpenedOverNumber,
     /// A message with other KMACs in the second of two runs.
     OtherKmacs,
     /// A call after which two runs held a key unlike.
@@ -65,6 +92,21 @@ impl fmt::Display for Mark {
             Mark::FoundAtOneMoment => write!(f, "record found at its one moment"),
             Mark::FoundBehindEarlier => write!(f, "record found behind one that ends earlier"),
             Mark::FoundFirstOfEqual => write!(f, "record found as the first of equal ends"),
+            Mark::RepeatedAfter(response) => write!(f, "RESPONSE 10 after {response}"),
+            Mark::RepeatedThen(response) => write!(f, "RESPONSE 10 before {response}"),
+            Mark::BeforeRepeated(response) => write!(f, "RESPONSE {response} before 10"),
+            Mark::RepeatedWithOtherType => write!(f, "number repeated with another type"),
+            Mark::RepeatedWithOtherBody => write!(f, "number repeated with another body"),
+            Mark::RepeatedZero => write!(f, "number 0 repeated"),
+            Mark::RepeatedByEnd => write!(f, "number repeated by end of update"),
+            Mark::RepeatedAtWrap => write!(f, "number repeated beside the wrap"),
+            Mark::RepeatedAtOwnWrap => write!(f, "number repeated at the own wrap"),
+            Mark::RepeatedByOddFlag => write!(f, "number repeated by a flag over 1"),
+            Mark::TakenZeroFirst => write!(f, "number 0 taken first"),
+            Mark::TakenBesideNoFlag => write!(f, "number taken where none is remembered"),
+            Mark::TakenAfterForgotten => write!(f, "number taken that was forgotten"),
+            Mark::TakenAfter9 => write!(f, "number taken after RESPONSE 9"),
+            Mark::OpenedOverNumber => write!(f, "session opened over a number"),
             Mark::OtherKmacs => write!(f, "message with other KMACs"),
             Mark::HeldUnlike => write!(f, "key held unlike"),
         }
@@ -231,7 +273,7 @@ fn results(kind: u8, results: &[u8]) -> Vec<Mark> {
 
 /// What begin, receive and find can answer from sound stores.
 fn of_sound_stores() -> Vec<Seen> {
-    let responses = [0, 1, 2, 3, 4, 5, 9, 11].map(Mark::Response);
+    let responses = [0, 1, 2, 3, 4, 5, 9, 10, 11].map(Mark::Response);
     let over_stores = [
         answers(Call::Receive, &[2, 3, 4, 5]),
         answers(Call::Find, &[11]),
@@ -239,6 +281,7 @@ fn of_sound_stores() -> Vec<Seen> {
         vec![Mark::FoundBehindEarlier, Mark::FoundFirstOfEqual],
         vec![Mark::Opened, Mark::Ended],
         responses.to_vec(),
+        repeated_numbers(),
         results(kind::ADD_KEYS, &[0, 2, 3, 4, 5, 255]),
         results(kind::DELETE_KEYS, &[0, 1]),
         results(kind::UPDATE_KEY_VALIDITIES, &[0, 1]),
@@ -247,6 +290,31 @@ fn of_sound_stores() -> Vec<Seen> {
     [
         without_store(answers(Call::Begin, &[2, 6])),
         in_each_edition(over_stores.concat()),
+    ]
+    .concat()
+}
+
+/// In what ways a transaction number comes again over a sound store.
+fn repeated_numbers() -> Vec<Mark> {
+    let others = vec![
+        Mark::RepeatedWithOtherType,
+        Mark::RepeatedWithOtherBody,
+        Mark::RepeatedZero,
+        Mark::RepeatedByEnd,
+        Mark::RepeatedAtWrap,
+        Mark::RepeatedAtOwnWrap,
+        Mark::RepeatedByOddFlag,
+        Mark::TakenZeroFirst,
+        Mark::TakenBesideNoFlag,
+        Mark::TakenAfterForgotten,
+        Mark::TakenAfter9,
+        Mark::OpenedOverNumber,
+    ];
+    [
+        BEFORE_REPEATED.map(Mark::BeforeRepeated).to_vec(),
+        [0, 1].map(Mark::RepeatedAfter).to_vec(),
+        [1, 11].map(Mark::RepeatedThen).to_vec(),
+        others,
     ]
     .concat()
 }
@@ -261,6 +329,8 @@ pub fn of_sessions() -> Vec<Seen> {
     let other_header = [Call::Receive, Call::Find].map(Mark::HeaderOfOther);
     let of_unsound_stores = [
         vec![Mark::Response(UNRECOVERABLE_DATABASE)],
+        vec![Mark::RepeatedAfter(UNRECOVERABLE_DATABASE)],
+        vec![Mark::RepeatedThen(UNRECOVERABLE_DATABASE)],
         refusals(Call::Find, &[H12]),
         other_header.to_vec(),
     ];
@@ -326,7 +396,7 @@ mod tests {
             .into_iter()
             .filter(|seen| is_response(seen.mark))
             .collect();
-        assert_eq!(responses.len(), 9);
+        assert_eq!(responses.len(), 10);
         assert!(responses.iter().all(|seen| seen.edition == Some(1)));
     }
 

@@ -7,11 +7,12 @@ use reference::store::{Edition, EDITIONS, EDITION_1};
 
 use crate::both::{Both, Step, World};
 use crate::layout::LENGTHS;
+use crate::library::{NUMBER_AT, REMEMBERED_AT, UNUSED_AT};
 use crate::random::Random;
 use crate::scene::{Scene, OUTPUT};
 use crate::stores::other_digit;
 use crate::wire::{self, LENGTH_MAX};
-use crate::wire::{RECEIVER_AT, SENDER_AT, SEQUENCE_AT, TYPE_AT, VERSION_AT};
+use crate::wire::{RECEIVER_AT, SENDER_AT, SEQUENCE_AT, TRANSACTION_AT, TYPE_AT, VERSION_AT};
 
 pub fn all(both: &mut Both, seed: u64) -> Step {
     for edition in EDITIONS {
@@ -141,7 +142,7 @@ fn fault_orders(both: &mut Both, edition: Edition, seed: u64) -> Step {
 }
 
 /// The message with a fault for each bit of `faults`.
-fn with_faults(random: &mut Random, message: &[u8], faults: u32) -> Vec<u8> {
+pub fn with_faults(random: &mut Random, message: &[u8], faults: u32) -> Vec<u8> {
     let mut wrong = message.to_vec();
     let has = |bit: u32| faults >> bit & 1 == 1;
     if has(6) {
@@ -202,18 +203,31 @@ fn sequence_numbers(both: &mut Both, edition: Edition, seed: u64) -> Step {
     Ok(())
 }
 
-/// Every state code, with any bytes in the rest of the session.
+/// Every state code and every byte that says whether a transaction number is remembered, with the
+/// message's own number and another one, and any bytes in the unused part of the session.
 fn session_bytes(both: &mut Both, edition: Edition, seed: u64) -> Step {
     let mut scene = Scene::new(edition, seed ^ 6);
     for message in scene.messages() {
         for state in 0..=255 {
             let mut world = scene.world(state);
-            world.session[1] = scene.random.u8();
-            world.session[14..].copy_from_slice(&scene.random.array::<18>());
+            world.session[UNUSED_AT..].copy_from_slice(&scene.random.array::<14>());
+            world.session[REMEMBERED_AT] = scene.random.u8();
+            both.receive(&mut world.clone(), &message, &OUTPUT)?;
+            let own = &message[TRANSACTION_AT..SEQUENCE_AT];
+            world.session[NUMBER_AT..UNUSED_AT].copy_from_slice(own);
             both.receive(&mut world.clone(), &message, &OUTPUT)?;
             both.receive(&mut world, &message[..19], &OUTPUT)?;
             world.session = scene.random.array();
             world.session[0] = state;
+            both.receive(&mut world, &message, &OUTPUT)?;
+        }
+        for flag in 0..=255 {
+            let mut world = scene.world(OPEN);
+            world.session[UNUSED_AT..].copy_from_slice(&scene.random.array::<14>());
+            world.session[REMEMBERED_AT] = flag;
+            both.receive(&mut world.clone(), &message, &OUTPUT)?;
+            let own = &message[TRANSACTION_AT..SEQUENCE_AT];
+            world.session[NUMBER_AT..UNUSED_AT].copy_from_slice(own);
             both.receive(&mut world, &message, &OUTPUT)?;
         }
     }

@@ -8,6 +8,7 @@ use reference::store::{Edition, KeyIdentifier, EDITION_1, EDITION_2};
 use crate::both::World;
 use crate::damage::damage;
 use crate::layout::{entry_at, held};
+use crate::library::REMEMBERED_AT;
 use crate::model::session_of;
 use crate::random::Random;
 use crate::stores::{other_digit, Names};
@@ -26,6 +27,8 @@ pub struct Generator {
     most_peers: usize,
     /// Where many keys were deleted, a large store would take most of a round to fill again.
     deletes_few: bool,
+    /// The transaction number of the last command, whatever was answered.
+    last: u32,
 }
 
 /// Sequence numbers, with those around the wrap often.
@@ -50,6 +53,7 @@ impl Generator {
             names,
             most_peers,
             deletes_few,
+            last: 0,
         }
     }
 
@@ -85,7 +89,7 @@ impl Generator {
         }
         let mut message = match session.state {
             WAITING => self.init(&session),
-            _ => self.command(&session, &world.store),
+            _ => self.command(&session, world),
         };
         if self.random.one_in(7) {
             damage(&mut self.random, &mut message);
@@ -132,20 +136,44 @@ impl Generator {
         Action::Find { peer, t }
     }
 
-    fn header(&mut self, session: &Session) -> Header {
+    fn header(&self, session: &Session, transaction: u32) -> Header {
         Header {
             receiver: session.own,
             sender: session.peer,
-            transaction: self.random.u32(),
+            transaction,
             sequence: session.expected,
+        }
+    }
+
+    /// The transaction number of a command. One that is repeated closes the session, so few are;
+    /// but where none is remembered the last one is often taken, and the number that stands in the
+    /// session often where its flag is another than a library writes beside it.
+    fn transaction(&mut self, session: &Session, flag: u8) -> u32 {
+        let held = session.transaction;
+        let again = match (flag, held) {
+            (0, 0) => 4,
+            (1, _) => 100,
+            _ => 2,
+        };
+        if self.random.one_in(again) {
+            return self.random.pick(&[held, held, self.last]);
+        }
+        match self.random.below(40) {
+            0 => 0,
+            1 => held ^ 1 << self.random.below(32),
+            2 => held.swap_bytes(),
+            3 => self.random.pick(&[1, u32::MAX, self.last.wrapping_add(1)]),
+            _ => self.random.u32(),
         }
     }
 
     /// A session init, with version 2 in its list most often.
     fn init(&mut self, session: &Session) -> Vec<u8> {
+        let any = self.random.u32();
+        let transaction = self.random.pick(&[0, self.last, session.transaction, any]);
         let header = Header {
             sequence: number(&mut self.random),
-            ..self.header(session)
+            ..self.header(session, transaction)
         };
         let versions = match self.random.below(10) {
             0 => vec![1, 3],
@@ -159,8 +187,9 @@ impl Generator {
     }
 
     /// A command, end of update or a type that is not supported, with a right header.
-    fn command(&mut self, session: &Session, store: &[u8]) -> Vec<u8> {
-        let header = self.header(session);
+    fn command(&mut self, session: &Session, world: &World) -> Vec<u8> {
+        self.last = self.transaction(session, world.session[REMEMBERED_AT]);
+        let header = self.header(session, self.last);
         let kind = match self.random.below(100) {
             0..=46 => kind::ADD_KEYS,
             47..=62 => kind::DELETE_KEYS,
@@ -172,7 +201,7 @@ impl Generator {
             _ => self.random.pick(&[5, 6, 7, 8, 9, 11, 12, 13, 14, 200, 255]),
         };
         let body = match kind {
-            0 | 1 | 3 | 4 => self.requests(session, kind, store),
+            0 | 1 | 3 | 4 => self.requests(session, kind, &world.store),
             kind::SESSION_INIT => wire::init_body(&[2], 255),
             _ => Vec::new(),
         };

@@ -9,6 +9,11 @@ use crate::random::Random;
 
 pub const SESSION_LENGTH: usize = 32;
 pub type SessionBytes = [u8; SESSION_LENGTH];
+/// Where a session says whether a transaction number is remembered, where it has the number, and
+/// where its unused part starts.
+pub const REMEMBERED_AT: usize = 1;
+pub const NUMBER_AT: usize = 14;
+pub const UNUSED_AT: usize = 18;
 /// The end that a search gives, in the host's order.
 pub type EndBytes = [u8; 4];
 

@@ -6,6 +6,7 @@
 //! answer that the papers can give was never seen in one of the editions.
 
 mod both;
+mod chain;
 mod compare;
 mod coverage;
 mod damage;
@@ -22,6 +23,7 @@ mod options;
 mod pairs;
 mod periods;
 mod random;
+mod repeated;
 mod scene;
 mod search;
 mod serials;
@@ -29,6 +31,7 @@ mod sessions;
 mod soundness;
 mod stores;
 mod tally;
+mod transactions;
 mod units;
 mod wire;
 
@@ -86,6 +89,7 @@ impl Tests {
     fn systematic(&mut self) -> Step {
         let (both, seed) = (&mut self.systematic, self.seed);
         edges::all(both, seed)?;
+        transactions::all(both, seed)?;
         limits::all(both, seed)?;
         soundness::all(both, seed)?;
         serials::all(both, seed)?;

@@ -7,27 +7,31 @@ use reference::{authentication, des::Des, session, store};
 
 use crate::library::{EndBytes, SessionBytes};
 
-/// The session in the bytes: state, a zero, own next number, expected number, own identity,
-/// peer identity, zeros.
+/// The session in the bytes: state, whether a transaction number is remembered, own next number,
+/// expected number, own identity, peer identity, that transaction number, zeros.
 pub fn session_of(bytes: &SessionBytes) -> Session {
-    let identity = |at: usize| [bytes[at], bytes[at + 1], bytes[at + 2], bytes[at + 3]];
+    let four = |at: usize| [bytes[at], bytes[at + 1], bytes[at + 2], bytes[at + 3]];
     let number = |at: usize| u16::from_be_bytes([bytes[at], bytes[at + 1]]);
     Session {
         state: bytes[0],
-        own: identity(6),
-        peer: identity(10),
+        own: four(6),
+        peer: four(10),
         next: number(2),
         expected: number(4),
+        remembered: bytes[1] != 0,
+        transaction: u32::from_be_bytes(four(14)),
     }
 }
 
 pub fn bytes_of(session: &Session) -> SessionBytes {
     let mut bytes = [0; 32];
     bytes[0] = session.state;
+    bytes[1] = session.remembered.into();
     bytes[2..4].copy_from_slice(&session.next.to_be_bytes());
     bytes[4..6].copy_from_slice(&session.expected.to_be_bytes());
     bytes[6..10].copy_from_slice(&session.own);
     bytes[10..14].copy_from_slice(&session.peer);
+    bytes[14..18].copy_from_slice(&session.transaction.to_be_bytes());
     bytes
 }
 

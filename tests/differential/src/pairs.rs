@@ -8,12 +8,14 @@ use reference::store::Edition;
 
 use crate::both::{before_search, demand_1_of_search, find_call, named, receive_call};
 use crate::both::{Step, World};
+use crate::chain::Chain;
 use crate::compare::{buffers, numbers, Compared};
 use crate::coverage::{Call, Coverage, Mark};
 use crate::generator::{Action, Generator};
 use crate::layout::{held, kmac_at};
 use crate::library::Library;
 use crate::random::Random;
+use crate::repeated::{begun_keeps_the_rule, Exchange};
 use crate::scene::{Scene, OUTPUT};
 use crate::sessions::start;
 use crate::tally::Tally;
@@ -24,6 +26,7 @@ pub struct Pairs {
     library: Library,
     pub calls: u64,
     pub seen: Coverage,
+    chain: Chain,
 }
 
 /// Two worlds and what the tally says of their stores.
@@ -39,6 +42,7 @@ impl Pairs {
             library: Library::new(),
             calls: 0,
             seen: Coverage::default(),
+            chain: Chain::default(),
         }
     }
 
@@ -73,18 +77,26 @@ impl Pairs {
 
     fn begin(&mut self, runs: &mut Runs, identities: (u32, u32), number: u16, out: &[u8]) -> Step {
         self.calls += 2;
+        let before = runs.first.session;
         let (mut out_1, mut out_2) = (out.to_vec(), out.to_vec());
         let (first, second) = (&mut runs.first.session, &mut runs.second.session);
         let answer_1 = self.library.begin(identities, number, first, &mut out_1);
         let answer_2 = self.library.begin(identities, number, second, &mut out_2);
         if let Ok(answer) = answer_1 {
             self.seen.answer(Call::Begin, answer);
+            if answer >= 0 {
+                self.chain.begun(&before, &runs.first.session);
+            }
         }
         named(
             || "kmac_begin in two runs".into(),
             || {
-                numbers("answer", answer_1?.into(), answer_2?.into())?;
+                let answer = answer_1?;
+                numbers("answer", answer.into(), answer_2?.into())?;
                 buffers("output", &out_1, &out_2)?;
+                if answer >= 0 {
+                    begun_keeps_the_rule(&runs.first.session)?;
+                }
                 runs.compare()
             },
         )
@@ -101,8 +113,18 @@ impl Pairs {
         let answer_1 = self.library.receive(session, message, store, &mut out_1);
         let World { session, store } = &mut runs.second;
         let answer_2 = self.library.receive(session, other, store, &mut out_2);
+        let exchange = |answer| Exchange {
+            before: &before.session,
+            message,
+            answer,
+            out: &out_1,
+            after: &runs.first.session,
+        };
         if let Ok(answer) = answer_1 {
             self.seen.received(&before.store, message, answer, &out_1);
+            for mark in self.chain.received(&exchange(answer), &before.store) {
+                self.seen.see(&before.store, mark);
+            }
             let length = usize::try_from(answer).unwrap_or(0);
             let reply = out_1.get(..length).unwrap_or_default();
             runs.tally.take(message, other, reply);
@@ -112,8 +134,10 @@ impl Pairs {
         }
         let call = || format!("two runs, {}", receive_call(&before, message, out.len()));
         named(call, || {
-            numbers("answer", answer_1?.into(), answer_2?.into())?;
+            let answer = answer_1?;
+            numbers("answer", answer.into(), answer_2?.into())?;
             buffers("output", &out_1, &out_2)?;
+            exchange(answer).keeps_the_rule()?;
             runs.compare()
         })
     }

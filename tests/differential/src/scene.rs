@@ -13,6 +13,15 @@ use crate::wire::{self, Header};
 
 pub const OUTPUT: [u8; 1032] = [0xee; 1032];
 
+/// The number that a scene's session expects.
+const EXPECTED: u16 = 300;
+
+/// The transaction number of a scene's message: another for each sequence number, so that a chain
+/// of messages repeats none.
+fn transaction(sequence: u16) -> u32 {
+    0x89ab_0000 | u32::from(sequence)
+}
+
 pub struct Scene {
     pub random: Random,
     pub names: Names,
@@ -36,13 +45,16 @@ impl Scene {
         }
     }
 
+    /// It remembers the transaction number of the message before.
     pub fn session(&self, state: u8) -> Session {
         Session {
             state,
             own: self.names.own,
             peer: self.names.centre,
             next: 700,
-            expected: 300,
+            expected: EXPECTED,
+            remembered: true,
+            transaction: transaction(EXPECTED - 1),
         }
     }
 
@@ -67,14 +79,14 @@ impl Scene {
     }
 
     pub fn header(&self) -> Header {
-        self.header_with(300)
+        self.header_with(EXPECTED)
     }
 
     pub fn header_with(&self, sequence: u16) -> Header {
         Header {
             receiver: self.names.own,
             sender: self.names.centre,
-            transaction: 0x89ab_cdef,
+            transaction: transaction(sequence),
             sequence,
         }
     }

@@ -1,12 +1,13 @@
 //! Random sequences of begin, messages and searches, chained over one session and one store.
 
-use reference::session::{Session, OPEN};
+use reference::session::{Session, OPEN, WAITING};
 use reference::store::encode;
 
 use crate::both::{Both, Step, World};
 use crate::faults::{unsound, FAULTS};
 use crate::generator::{Action, Generator};
 use crate::layout::{other, LENGTHS};
+use crate::library::REMEMBERED_AT;
 use crate::model::bytes_of;
 use crate::stores::Names;
 
@@ -29,21 +30,28 @@ pub fn sequence(both: &mut Both, seed: u64, steps: usize) -> Step {
     Ok(())
 }
 
-/// A sound store and a session of any kind.
+/// A sound store and a session of any kind, whose flag of a remembered number is often neither 0
+/// nor 1.
 pub fn start(generator: &mut Generator) -> World {
     let entries = generator.names.sound(&mut generator.random);
+    let any = generator.random.u32();
     let session = Session {
-        state: OPEN,
+        state: generator.random.pick(&[OPEN, OPEN, WAITING]),
         own: generator.names.own,
         peer: generator.names.centre,
         next: generator.random.u16(),
         expected: generator.random.u16(),
+        remembered: true,
+        transaction: generator.random.pick(&[0, any, any]),
     };
-    let session = match generator.random.below(4) {
+    let mut session = match generator.random.below(4) {
         0 => [0; 32],
         1 => generator.random.array(),
         _ => bytes_of(&session),
     };
+    if session[REMEMBERED_AT] == 1 {
+        session[REMEMBERED_AT] = generator.random.pick(&[0, 0, 1, 2, 255]);
+    }
     World {
         session,
         store: encode(generator.edition(), &entries),
@@ -117,10 +125,14 @@ fn step_with(
     Ok(())
 }
 
-/// Puts another byte somewhere in the session, its state and unused bytes among them.
+/// Puts another byte somewhere in the session, its state and unused bytes among them. The state is
+/// waiting now and then, over what is remembered.
 fn spoil(generator: &mut Generator, world: &mut World) {
-    let at = generator
-        .random
-        .pick(&[0, 1, 2, 3, 4, 5, 9, 13, 14, 18, 31]);
-    world.session[at] = generator.random.u8();
+    let random = &mut generator.random;
+    let at = random.pick(&[0, 1, 2, 3, 4, 5, 9, 13, 14, 17, 18, 31]);
+    let any = random.u8();
+    world.session[at] = match at {
+        0 => random.pick(&[WAITING, OPEN, any]),
+        _ => any,
+    };
 }

@@ -12,6 +12,7 @@ pub const PEER_NUM_MAX: usize = 1000;
 pub const VERSION_AT: usize = 4;
 pub const RECEIVER_AT: usize = 5;
 pub const SENDER_AT: usize = 9;
+pub const TRANSACTION_AT: usize = 13;
 pub const SEQUENCE_AT: usize = 17;
 pub const TYPE_AT: usize = 19;
 

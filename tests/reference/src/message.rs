@@ -39,6 +39,7 @@ pub mod response {
     pub const UNSUPPORTED_VERSION: u8 = 5;
     pub const UNRECOVERABLE_DATABASE: u8 = 6;
     pub const SEQUENCE_MISMATCH: u8 = 9;
+    pub const TRANSACTION_MISMATCH: u8 = 10;
     pub const FORMAT_ERROR: u8 = 11;
 }
 

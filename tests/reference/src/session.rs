@@ -1,4 +1,4 @@
-//! Sessions (01, "Sessions"; 000, 5.4).
+//! Sessions (01, "Sessions"; 02, CR 3; 000, 5.4).
 
 use crate::message::{body, is_supported, kind, notif_response, offers_version, response};
 use crate::message::{session_init, Body, Header, HEADER_LENGTH, VERSION};
@@ -20,6 +20,11 @@ pub struct Session {
     pub next: u16,
     /// The sequence number expected next.
     pub expected: u16,
+    /// Whether a message has passed the sequence test since the session opened.
+    pub remembered: bool,
+    /// The transaction number of the last such message. Without one it means nothing: zero is a
+    /// number like another.
+    pub transaction: u32,
 }
 
 #[derive(Clone, Copy, PartialEq, Eq, Debug)]
@@ -59,6 +64,8 @@ pub fn begin(
         peer,
         next: number.wrapping_add(1),
         expected: 0,
+        remembered: false,
+        transaction: 0,
     };
     let length = write(out, &session_init(peer, own, number));
     Ok((session, length))
@@ -86,7 +93,14 @@ pub fn receive(
     if session.state == WAITING {
         return open(session, &header, message);
     }
-    match judge(&session, &header, message, edition, store) {
+    let (session, outcome) = match connection_fault(&session, &header, message.len()) {
+        Some(fault) => (session, Outcome::Response(fault, Vec::new())),
+        None => (
+            remembering(session, header.transaction),
+            judge(&session, &header, message, edition, store),
+        ),
+    };
+    match outcome {
         Outcome::Ended => (closed(session), Answer::Ended),
         Outcome::Response(response, results) => {
             let Session {
@@ -110,12 +124,20 @@ fn open(session: Session, header: &Header, message: &[u8]) -> (Session, Answer) 
     let opened = Session {
         state: OPEN,
         expected: header.sequence.wrapping_add(1),
+        remembered: false,
+        transaction: 0,
         ..session
     };
     (opened, Answer::Opened)
 }
 
-/// The tests of an open session in 01's order, then the work. The first failure is the RESPONSE.
+/// The tests of an open session up to the sequence test, in 01's order: the first that fails.
+fn connection_fault(session: &Session, header: &Header, delivered: usize) -> Option<u8> {
+    header_fault(session, header, delivered)
+        .or_else(|| (header.sequence != session.expected).then_some(response::SEQUENCE_MISMATCH))
+}
+
+/// The tests behind the sequence test, then the work. The first failure is the RESPONSE.
 fn judge(
     session: &Session,
     header: &Header,
@@ -124,11 +146,8 @@ fn judge(
     store: &mut [u8],
 ) -> Outcome {
     let failed = |response| Outcome::Response(response, Vec::new());
-    if let Some(fault) = header_fault(session, header, message.len()) {
-        return failed(fault);
-    }
-    if header.sequence != session.expected {
-        return failed(response::SEQUENCE_MISMATCH);
+    if session.remembered && header.transaction == session.transaction {
+        return failed(response::TRANSACTION_MISMATCH);
     }
     if !is_supported(header.kind) {
         return failed(response::NOT_SUPPORTED);
@@ -192,6 +211,15 @@ fn after_reply(session: Session, response: u8) -> Session {
             ..session
         },
         _ => closed(session),
+    }
+}
+
+/// Every message that passes the sequence test is remembered, whatever becomes of it.
+fn remembering(session: Session, transaction: u32) -> Session {
+    Session {
+        remembered: true,
+        transaction,
+        ..session
     }
 }
 

@@ -2,6 +2,7 @@
 
 use reference::authentication::{build, check, session_keys};
 use reference::hex::encode;
+use reference::message::response;
 use reference::session::{begin, receive, Answer, Session, CLOSED, OPEN, WAITING};
 use reference::store::{self, decode, find, Edition, Found, EDITIONS, EDITION_1};
 use reference::{Identity, OUTPUT_LENGTH};
@@ -57,6 +58,31 @@ const REASONS: [&str; 13] = [
     "key is not 24 bytes",
 ];
 
+/// The meaning of each RESPONSE other than 0 that the module answers.
+const MEANINGS: [(u8, &str); 9] = [
+    (response::NOT_SUPPORTED, "request not supported"),
+    (response::LENGTH_ERROR, "message length error"),
+    (response::SENDER_MISMATCH, "sender is not the peer"),
+    (
+        response::RECEIVER_MISMATCH,
+        "receiver is not the own identity",
+    ),
+    (
+        response::UNSUPPORTED_VERSION,
+        "unsupported interface version",
+    ),
+    (response::UNRECOVERABLE_DATABASE, "store is unsound"),
+    (
+        response::SEQUENCE_MISMATCH,
+        "sequence number is not the expected one",
+    ),
+    (
+        response::TRANSACTION_MISMATCH,
+        "transaction number repeated",
+    ),
+    (response::FORMAT_ERROR, "format error"),
+];
+
 /// What a line prints, or why it is not read.
 type Said = Result<(), &'static str>;
 
@@ -82,6 +108,8 @@ fn main() {
             peer: [0; 4],
             next: 0,
             expected: 0,
+            remembered: false,
+            transaction: 0,
         },
         store: store::encode(EDITION_1, &[]),
         keys: None,
@@ -310,14 +338,22 @@ impl Bench {
         };
         let (own, peer) = (encode(&session.own), encode(&session.peer));
         let (next, expected) = (session.next, session.expected);
-        println!("session {state}, own {own}, peer {peer}, next {next}, expected {expected}");
+        print!("session {state}, own {own}, peer {peer}, next {next}, expected {expected}");
+        if session.remembered {
+            println!(", last transaction {}", session.transaction);
+        } else {
+            println!(", last transaction none");
+        }
     }
 }
 
-/// A reply, RESPONSE and each RESULT.
+/// A reply, RESPONSE with its meaning, and each RESULT.
 fn reply(bytes: &[u8]) {
     println!("reply {}", encode(bytes));
     print!("  RESPONSE {}", bytes[20]);
+    if let Some((_, meaning)) = MEANINGS.iter().find(|(number, _)| *number == bytes[20]) {
+        print!(" {meaning}");
+    }
     if bytes.len() > 23 {
         print!(", RESULT");
     }

@@ -1,4 +1,4 @@
-//! Prints the input of an example for the console: `console_examples update`, `torn`, `yards`, `depot` or `lines`.
+//! Prints the input of an example for the console: `console_examples update`, `torn`, `yards`, `depot`, `repeated` or `lines`.
 
 use reference::authentication::{build, session_keys};
 use reference::hex::encode;
@@ -32,9 +32,10 @@ fn main() {
         "torn" => torn(),
         "yards" => yards(),
         "depot" => depot(),
+        "repeated" => repeated(),
         "lines" => lines(),
         _ => {
-            eprintln!("console_examples update|torn|yards|depot|lines");
+            eprintln!("console_examples update|torn|yards|depot|repeated|lines");
             std::process::exit(2);
         }
     }
@@ -42,7 +43,7 @@ fn main() {
 
 // ---- what a key centre sends
 
-/// The centre's side of a session: the number of its next message.
+/// The centre's side of a session: the numbers of its next message.
 struct Session {
     tug: Identity,
     number: u16,
@@ -65,12 +66,21 @@ impl Session {
     fn message(&mut self, kind: u8, body: &[u8]) -> Vec<u8> {
         let bytes = message::assemble(self.tug, CENTRE, self.transaction, self.number, kind, body);
         self.number = self.number.wrapping_add(1);
-        self.transaction += 1;
+        self.transaction = self.transaction.wrapping_add(1);
         bytes
     }
 
     fn send(&mut self, kind: u8, body: &[u8]) {
         say(&self.message(kind, body));
+    }
+
+    /// The next message with a transaction number out of turn.
+    fn send_numbered(&mut self, transaction: u32, kind: u8, body: &[u8]) {
+        let in_turn = self.transaction;
+        self.transaction = transaction;
+        let message = self.message(kind, body);
+        self.transaction = in_turn;
+        say(&message);
     }
 
     fn end(mut self) {
@@ -182,6 +192,7 @@ fn update() {
     println!("# End of update: the session closes, and what comes after it is refused.");
     let late = Session {
         number: session.number.wrapping_add(1),
+        transaction: session.transaction + 1,
         ..session
     };
     session.end();
@@ -359,6 +370,68 @@ fn more_keys(mut session: Session) {
     search(centre_of(SECOND_RAILWAY, 65), NOON);
 }
 
+fn repeated() {
+    println!(
+        "# A key centre repeats a transaction number. The tug is 02e6a541, the centre 05000017."
+    );
+    println!("# Two transactions in a row must have different numbers. The first of a session has nothing to differ from.");
+    let mut session = Session::open(TUG, 1, 100);
+    println!("show");
+    println!("# Transaction 1: two keys.");
+    let list = [
+        key(1, TUG, &kmac(1), &[RBC]),
+        key(2, TUG, &kmac(2), &[NEXT_RBC]),
+    ];
+    session.send(kind::ADD_KEYS, &requests(&list));
+    println!("# Transaction 2: the first key is deleted.");
+    session.send(kind::DELETE_KEYS, &requests(&[identifier(1)]));
+    println!("show");
+    println!("# The centre has missed the reply and sends the command again, with the next sequence number but the number 2 once more: RESPONSE 10.");
+    session.send_numbered(2, kind::DELETE_KEYS, &requests(&[identifier(1)]));
+    println!("# The session is closed, and the store is as it was. Whatever comes now is refused.");
+    println!("show");
+    session.send(kind::DELETE_KEYS, &requests(&[identifier(2)]));
+    let session = in_a_new_session();
+    second_session_init(session);
+    repeated_end();
+}
+
+fn in_a_new_session() -> Session {
+    println!("# A new session remembers no number: transaction 2 is taken as its first. The first key was deleted before (RESULT 1).");
+    let mut session = Session::open(TUG, 1, 200);
+    println!("show");
+    session.send_numbered(2, kind::DELETE_KEYS, &requests(&[identifier(1)]));
+    println!("# Transaction 3, and 2 again: only the last number is looked at.");
+    let third = requests(&[key(3, TUG, &kmac(3), &[RBC])]);
+    session.send_numbered(3, kind::ADD_KEYS, &third);
+    session.send_numbered(2, kind::DELETE_KEYS, &requests(&[identifier(2)]));
+    println!("show");
+    session
+}
+
+fn second_session_init(mut session: Session) {
+    println!("# A second session init in the open session is no command (RESPONSE 1). Its number 0 is remembered like any other.");
+    session.send_numbered(0, kind::SESSION_INIT, &[1, 2, 255]);
+    println!("show");
+    println!("# A third one repeats the number 0: RESPONSE 10.");
+    session.send_numbered(0, kind::SESSION_INIT, &[1, 2, 255]);
+    println!("show");
+}
+
+fn repeated_end() {
+    println!("# Transaction 1: the third key ends at noon. The end of update repeats its number: RESPONSE 10. The update is kept, and the session closed.");
+    let mut session = Session::open(TUG, 1, 300);
+    let until = requests(&[until_noon(3)]);
+    session.send(kind::UPDATE_KEY_VALIDITIES, &until);
+    session.send_numbered(1, kind::END_OF_UPDATE, &[]);
+    println!("show");
+    println!("# With the number 0, which SUBSET-137 gives it, the end of update closes the session and has no reply.");
+    let mut session = Session::open(TUG, 1, 400);
+    session.send(kind::UPDATE_KEY_VALIDITIES, &until);
+    session.send_numbered(0, kind::END_OF_UPDATE, &[]);
+    println!("show");
+}
+
 /// Every command and every answer of the console, in few lines.
 fn lines() {
     println!("# Every command, and what is said of a line that is not read.\n");
@@ -375,6 +448,7 @@ fn lines() {
     );
     waiting();
     commands();
+    responses();
     units();
     editions();
     unsound();
@@ -429,6 +503,30 @@ fn commands() {
     session.send(kind::DELETE_ALL_KEYS, &[]);
     println!("show");
     session.end();
+}
+
+/// Each RESPONSE that closes the session, over the empty store. The length is wrong elsewhere.
+fn responses() {
+    // The last bytes of version, receiver, sender and sequence number.
+    for at in [4, 8, 12, 18] {
+        let mut session = Session::open(TUG, 1, 1);
+        session.send(kind::DELETE_ALL_KEYS, &[]);
+        let mut faulty = session.message(kind::DELETE_ALL_KEYS, &[]);
+        faulty[at] ^= 1;
+        say(&faulty);
+        println!("show");
+    }
+    let mut session = Session::open(TUG, 1, 1);
+    session.send(kind::DELETE_ALL_KEYS, &[0]);
+    println!("show");
+    for transaction in [0, u32::MAX] {
+        let mut session = Session::open(TUG, 1, 1);
+        println!("show");
+        session.send_numbered(transaction, kind::DELETE_ALL_KEYS, &[]);
+        println!("show");
+        session.send_numbered(transaction, kind::DELETE_ALL_KEYS, &[]);
+        println!("show");
+    }
 }
 
 /// Units under the session keys that are held, the store being empty.

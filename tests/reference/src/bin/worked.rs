@@ -1,8 +1,8 @@
-//! Prints the worked numbers of sessions and the store (01, and 02, change requests 4, 5 and 7) as WORKED.md asks,
+//! Prints the worked numbers of sessions and the store (01, and 02, change requests 3, 4, 5 and 7) as WORKED.md asks,
 //! for comparison line by line.
 
 use reference::message::{assemble, kind, response, session_init, HEADER_LENGTH};
-use reference::session::{begin, receive, Answer, Session};
+use reference::session::{begin, receive, Answer, Session, OPEN, WAITING};
 use reference::store::{decode, encode, find, key, Edition, Entry, Found, KeyIdentifier};
 use reference::store::{EDITION_1, EDITION_2};
 use reference::{Identity, OUTPUT_LENGTH};
@@ -14,11 +14,15 @@ const ISSUER: Identity = [1, 2, 3, 4];
 const PEER: Identity = [0x11, 0x22, 0x33, 0x44];
 const OTHER: Identity = [0x55, 0x66, 0x77, 0x88];
 
-/// Any starting number of the module and any transaction number of the centre would do.
+/// Any starting number of the module would do.
 const OWN_START: u16 = 9;
-const TRANSACTION: u32 = 0x89ab_cdef;
 /// The number of the centre's session init; a command's is the next.
 const CENTRE_START: u16 = 40;
+
+/// The transaction number that is remembered where a session is handed in.
+const REMEMBERED: u32 = 0x89ab_cdef;
+/// A type that is neither a command nor end of update.
+const OTHER_TYPE: u8 = 200;
 
 /// Where the low byte of the length and the receiver stand in a header (000, 5.3.3).
 const LENGTH_LOW: usize = 3;
@@ -55,12 +59,14 @@ fn edition_1(store: &mut [u8]) {
     delete_all_of_unsound(store);
     last_number(store);
     wrong_header(store);
+    transaction_numbers(store);
 }
 
 fn edition_2(store: &mut [u8]) {
     full_of_500_keys(store);
     full_of_4000_peers(store);
     moments_of_many(store);
+    transaction_numbers(store);
     header_of(EDITION_1, store);
     not_zero(store);
     parts_of(store);
@@ -238,6 +244,150 @@ fn wrong_header(store: &mut [u8]) {
     deliver(session, store, "length and receiver both wrong", &wrong);
 }
 
+/// Repeated transaction numbers, and what a session remembers (02, change request 3).
+fn transaction_numbers(store: &mut [u8]) {
+    two_deletes(store);
+    number_zero(store);
+    handed_in(store);
+    place_of_the_test(store);
+    opening(store);
+    ends_of_update(store);
+    after_other_responses(store);
+    after_an_unsound_store(store);
+}
+
+fn two_deletes(store: &mut [u8]) {
+    two_keys(store);
+    let mut centre = Centre::opened(store);
+    centre.send(store, "one number", 7, one(delete(1)));
+    centre.send(store, "the same number", 7, one(delete(2)));
+    centre.session();
+    records(store);
+    two_keys(store);
+    let mut centre = Centre::opened(store);
+    centre.send(store, "one number", 7, one(delete(1)));
+    centre.send(store, "another number", 8, one(delete(2)));
+    centre.session();
+    records(store);
+    centre.send(store, "the first number again", 7, one(add(1, 1)));
+    centre.session();
+}
+
+fn number_zero(store: &mut [u8]) {
+    two_keys(store);
+    let mut centre = Centre::opened(store);
+    centre.session();
+    centre.send(store, "number 0 first", 0, one(delete(1)));
+    centre.session();
+    centre.send(store, "number 0 again", 0, one(delete(2)));
+    centre.session();
+    records(store);
+}
+
+/// Sessions that are handed in with a number, remembered or not.
+fn handed_in(store: &mut [u8]) {
+    two_keys(store);
+    let mut centre = Centre::of(remembering());
+    centre.session();
+    centre.send(store, "the remembered number", REMEMBERED, one(delete(1)));
+    centre.session();
+    let mut centre = Centre::of(remembering());
+    let other = REMEMBERED - 1;
+    centre.send(store, "not the remembered number", other, one(delete(1)));
+    centre.session();
+    let mut centre = Centre::of(Session {
+        remembered: false,
+        ..remembering()
+    });
+    centre.session();
+    let name = "the number, but none remembered";
+    centre.send(store, name, REMEMBERED, one(delete(2)));
+    centre.session();
+}
+
+/// Behind the test of the sequence number, and before that of the type.
+fn place_of_the_test(store: &mut [u8]) {
+    for (name, transaction) in [
+        ("sequence and transaction number wrong", REMEMBERED),
+        ("sequence number wrong", 7),
+    ] {
+        let mut centre = Centre::of(remembering());
+        centre.number += 1;
+        centre.send(store, name, transaction, empty(kind::DELETE_ALL_KEYS));
+        centre.session();
+    }
+    let mut centre = Centre::of(remembering());
+    let name = "transaction number and type wrong";
+    centre.send(store, name, REMEMBERED, empty(OTHER_TYPE));
+    centre.session();
+}
+
+/// A session init with the remembered number opens, and what it opens remembers none.
+fn opening(store: &mut [u8]) {
+    let waiting = Session {
+        state: WAITING,
+        ..remembering()
+    };
+    let mut centre = Centre::of(waiting);
+    centre.session();
+    let init = (kind::SESSION_INIT, vec![1, 2, 255]);
+    centre.send(store, "session init", REMEMBERED, init);
+    centre.session();
+    let first = empty(kind::DELETE_ALL_KEYS);
+    centre.send(store, "its number again", REMEMBERED, first);
+    centre.session();
+    let mut centre = Centre::of(waiting);
+    let other = empty(kind::DELETE_ALL_KEYS);
+    centre.send(store, "no session init", 7, other);
+    centre.session();
+}
+
+fn ends_of_update(store: &mut [u8]) {
+    for (name, transaction) in [
+        ("end of update, the same number", 7),
+        ("end of update, another number", 8),
+    ] {
+        let mut centre = Centre::opened(store);
+        centre.send(store, "delete all", 7, empty(kind::DELETE_ALL_KEYS));
+        centre.send(store, name, transaction, empty(kind::END_OF_UPDATE));
+        centre.session();
+    }
+}
+
+/// RESPONSE 1, and RESPONSE 11, which closes.
+fn after_other_responses(store: &mut [u8]) {
+    for (name, transaction) in [
+        ("type 200, the same number", 7),
+        ("type 200, another number", 8),
+    ] {
+        let mut centre = Centre::opened(store);
+        centre.send(store, "type 200", 7, empty(OTHER_TYPE));
+        centre.session();
+        centre.send(store, name, transaction, empty(kind::DELETE_ALL_KEYS));
+        centre.session();
+    }
+    let mut centre = Centre::opened(store);
+    let too_long = (kind::DELETE_ALL_KEYS, vec![0]);
+    centre.send(store, "format error", 7, too_long);
+    centre.session();
+}
+
+/// RESPONSE 6; delete all does not ask whether the store is sound.
+fn after_an_unsound_store(store: &mut [u8]) {
+    store[EDITION_LOW] = 3;
+    for (name, transaction) in [
+        ("unsound store, the same number", 7),
+        ("unsound store, another number", 8),
+    ] {
+        let mut centre = Centre::opened(store);
+        centre.send(store, "unsound store, delete", 7, one(delete(1)));
+        centre.session();
+        centre.send(store, name, transaction, empty(kind::DELETE_ALL_KEYS));
+        centre.session();
+        header(store);
+    }
+}
+
 fn full_of_500_keys(store: &mut [u8]) {
     clear(store);
     let keys: Vec<_> = (1..=500)
@@ -322,6 +472,25 @@ fn entry(serial: u32, peers: usize) -> Entry {
 /// A message type with one request for it.
 type Command = (u8, Vec<u8>);
 
+/// A message type with its body.
+type Content = (u8, Vec<u8>);
+
+/// REQ-NUM 1 and the request.
+fn one((kind, request): Command) -> Content {
+    (kind, [vec![0, 1], request].concat())
+}
+
+fn empty(kind: u8) -> Content {
+    (kind, Vec::new())
+}
+
+/// The new store with the keys 1 and 2.
+fn two_keys(store: &mut [u8]) {
+    clear(store);
+    let keys = [k_struct(OWN, &entry(1, 1)), k_struct(OWN, &entry(2, 1))];
+    command(store, "two keys", kind::ADD_KEYS, &keys);
+}
+
 fn add(serial: u32, peers: usize) -> Command {
     add_for(OWN, &entry(serial, peers))
 }
@@ -385,9 +554,9 @@ fn k_struct(recipient: Identity, entry: &Entry) -> Vec<u8> {
     bytes
 }
 
-/// A message of the centre with a right header.
+/// A message of the centre with a right header. Its transaction number is its sequence number.
 fn message(number: u16, kind: u8, body: &[u8]) -> Vec<u8> {
-    assemble(OWN, CENTRE, TRANSACTION, number, kind, body)
+    assemble(OWN, CENTRE, number.into(), number, kind, body)
 }
 
 /// Makes the buffer the empty store of its length.
@@ -409,14 +578,70 @@ fn opened(number: u16, store: &mut [u8]) -> Session {
     session
 }
 
-/// Delivers a message, prints what the reply says, and gives the session for the next.
+/// An open session that is handed in with a number: it expects the number that a command has.
+fn remembering() -> Session {
+    Session {
+        state: OPEN,
+        own: OWN,
+        peer: CENTRE,
+        next: OWN_START + 1,
+        expected: CENTRE_START + 1,
+        remembered: true,
+        transaction: REMEMBERED,
+    }
+}
+
+/// The centre's side of a session whose messages have transaction numbers of their own.
+struct Centre {
+    module: Session,
+    number: u16,
+}
+
+impl Centre {
+    fn of(module: Session) -> Centre {
+        Centre {
+            module,
+            number: CENTRE_START + 1,
+        }
+    }
+
+    fn opened(store: &mut [u8]) -> Centre {
+        Centre::of(opened(CENTRE_START, store))
+    }
+
+    /// Sends a message with this transaction number and the next sequence number.
+    fn send(&mut self, store: &mut [u8], name: &str, transaction: u32, (kind, body): Content) {
+        let message = assemble(OWN, CENTRE, transaction, self.number, kind, &body);
+        self.module = deliver(self.module, store, name, &message);
+        self.number += 1;
+    }
+
+    /// State and remembered number of the module's session.
+    fn session(&self) {
+        let state = match self.module.state {
+            WAITING => "waiting",
+            OPEN => "open",
+            _ => "closed",
+        };
+        print!("session: {state}, last transaction ");
+        if self.module.remembered {
+            println!("{}", self.module.transaction);
+        } else {
+            println!("none");
+        }
+    }
+}
+
+/// Delivers a message, prints what is answered, and gives the session for the next.
 fn deliver(session: Session, store: &mut [u8], name: &str, message: &[u8]) -> Session {
     let out = &mut [0; OUTPUT_LENGTH];
     let (session, answer) = receive(session, message, store, out);
-    let Answer::Reply(length) = answer else {
-        panic!("{name}: no reply, but {answer:?}");
-    };
-    println!("{name}: {}", said(&out[HEADER_LENGTH..length]));
+    match answer {
+        Answer::Reply(length) => println!("{name}: {}", said(&out[HEADER_LENGTH..length])),
+        Answer::Opened => println!("{name}: opened"),
+        Answer::Ended => println!("{name}: ended"),
+        Answer::Refused(refusal) => println!("{name}: H{refusal}"),
+    }
     session
 }
 

@@ -10,6 +10,7 @@ mod self_test;
 mod session;
 mod slips;
 mod store;
+mod transactions;
 
 use crate::message::kind;
 use crate::session::{receive, Answer, Session, OPEN};
@@ -19,7 +20,6 @@ use crate::Identity;
 const OWN: Identity = [0x02, 0xe6, 0xa5, 0x4b];
 const CENTRE: Identity = [0x05, 0x11, 0x22, 0x33];
 const ISSUER: Identity = [0x05, 0x44, 0x55, 0x66];
-const TRANSACTION: [u8; 4] = [0x89, 0xab, 0xcd, 0xef];
 
 /// Lengths of a store of neither edition.
 const WRONG_LENGTHS: [usize; 6] = [0, 12, 3851, 3853, 38011, 38013];
@@ -28,6 +28,7 @@ const WRONG_LENGTHS: [usize; 6] = [0, 12, 3851, 3853, 38011, 38013];
 const VERSION_AT: usize = 4;
 const RECEIVER_AT: usize = 5;
 const SENDER_AT: usize = 9;
+const TRANSACTION_AT: usize = 13;
 const SEQUENCE_AT: usize = 17;
 const TYPE_AT: usize = 19;
 
@@ -81,6 +82,12 @@ fn entries(peer_counts: &[usize]) -> Vec<Entry> {
 fn full(edition: Edition) -> Vec<Entry> {
     let peers_each = edition.peers_max / edition.keys_max;
     entries(&vec![peers_each; edition.keys_max])
+}
+
+fn unsound(edition: Edition) -> Vec<u8> {
+    let mut store = encode(edition, &entries(&[1]));
+    store[edition.length() - 1] = 1;
+    store
 }
 
 /// The answer of a search that takes the record of this place and end.
@@ -154,15 +161,26 @@ fn requests(structures: &[Vec<u8>]) -> Vec<u8> {
     [&count[..], &structures.concat()].concat()
 }
 
+/// The transaction number of a message where the test does not say another. It differs from that of the
+/// message before.
+fn transaction(sequence: u16) -> u32 {
+    0x89ab_0000 + u32::from(sequence)
+}
+
 /// A message from the centre with a right header.
 fn message(kind: u8, sequence: u16, body: &[u8]) -> Vec<u8> {
+    numbered(transaction(sequence), kind, sequence, body)
+}
+
+/// The same with this transaction number.
+fn numbered(transaction: u32, kind: u8, sequence: u16, body: &[u8]) -> Vec<u8> {
     let length = 20 + body.len() as u32;
     [
         &length.to_be_bytes()[..],
         &[2],
         &OWN,
         &CENTRE,
-        &TRANSACTION,
+        &transaction.to_be_bytes(),
         &sequence.to_be_bytes(),
         &[kind],
         body,
@@ -170,15 +188,20 @@ fn message(kind: u8, sequence: u16, body: &[u8]) -> Vec<u8> {
     .concat()
 }
 
-/// The reply that the centre should get.
-fn reply(sequence: u16, response: u8, results: &[u8]) -> Vec<u8> {
+/// The transaction number that a message has.
+fn number_of(message: &[u8]) -> u32 {
+    u32::from_be_bytes(message[TRANSACTION_AT..SEQUENCE_AT].try_into().unwrap())
+}
+
+/// The reply that the centre should get to its message: with the transaction number received.
+fn reply(message: &[u8], sequence: u16, response: u8, results: &[u8]) -> Vec<u8> {
     let length = 23 + results.len() as u32;
     [
         &length.to_be_bytes()[..],
         &[2],
         &CENTRE,
         &OWN,
-        &TRANSACTION,
+        &message[TRANSACTION_AT..SEQUENCE_AT],
         &sequence.to_be_bytes(),
         &[11, response],
         &(results.len() as u16).to_be_bytes(),
@@ -194,6 +217,17 @@ fn open_session() -> Session {
         peer: CENTRE,
         next: 700,
         expected: 300,
+        remembered: false,
+        transaction: 0,
+    }
+}
+
+/// A session that remembers this transaction number.
+fn remembering(transaction: u32, session: Session) -> Session {
+    Session {
+        remembered: true,
+        transaction,
+        ..session
     }
 }
 
@@ -240,7 +274,7 @@ impl Bench {
         assert_eq!(answer, Answer::Reply(23 + structures.len()));
         assert_eq!(
             self.out[..23 + structures.len()],
-            reply(before.next, 0, &results)
+            reply(&message, before.next, 0, &results)
         );
         results
     }

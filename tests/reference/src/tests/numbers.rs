@@ -98,12 +98,12 @@ fn zero_is_expected_after_65535() {
     bench.session.expected = 65535;
     bench.session.next = 65535;
     let first = message(kind::DELETE_ALL_KEYS, 65535, &[]);
-    bench.assert_reply(&first, &reply(65535, 0, &[]));
+    bench.assert_reply(&first, &reply(&first, 65535, 0, &[]));
     assert_eq!(bench.session.state, OPEN);
     assert_eq!(bench.session.expected, 0);
     assert_eq!(bench.session.next, 0);
     let second = message(kind::DELETE_ALL_KEYS, 0, &[]);
-    bench.assert_reply(&second, &reply(0, 0, &[]));
+    bench.assert_reply(&second, &reply(&second, 0, 0, &[]));
 }
 
 #[test]
@@ -112,7 +112,7 @@ fn length_and_receiver_both_wrong() {
     let mut wrong = message(kind::DELETE_ALL_KEYS, 300, &[]);
     wrong[3] += 1;
     wrong[RECEIVER_AT] ^= 1;
-    bench.assert_reply(&wrong, &reply(700, 2, &[]));
+    bench.assert_reply(&wrong, &reply(&wrong, 700, 2, &[]));
     assert_eq!(bench.session.state, CLOSED);
 }
 

@@ -1,8 +1,12 @@
 //! Beginning, opening, the table of tests, the bodies, and the refusals in their order.
 
 use super::{entries, entry, found, full, k_entities, k_identifier, k_struct, k_validity, message};
-use super::{open_session, peer_list, peers, reply, requests, Bench, CENTRE, OWN};
-use super::{RECEIVER_AT, SENDER_AT, SEQUENCE_AT, TYPE_AT, VERSION_AT};
+use super::{
+    number_of, numbered, open_session, peer_list, peers, remembering, reply, requests, transaction,
+    unsound,
+};
+use super::{Bench, CENTRE, OWN};
+use super::{RECEIVER_AT, SENDER_AT, SEQUENCE_AT, TRANSACTION_AT, TYPE_AT, VERSION_AT};
 use crate::message::kind;
 use crate::session::{begin, receive, Answer, Session, CLOSED, OPEN, WAITING};
 use crate::store::{encode, find, Edition, Entry, EDITIONS, EDITION_1, EDITION_2};
@@ -22,6 +26,22 @@ fn waiting() -> Session {
     }
 }
 
+/// The session as it is, with none remembered beside the number of a message with the sequence number 300,
+/// and remembering two other numbers.
+fn remembering_others(session: Session) -> [Session; 4] {
+    let meaningless = Session {
+        remembered: false,
+        transaction: transaction(300),
+        ..session
+    };
+    [
+        session,
+        meaningless,
+        remembering(0, session),
+        remembering(!transaction(300), session),
+    ]
+}
+
 fn session_init(sequence: u16, body: &[u8]) -> Vec<u8> {
     message(kind::SESSION_INIT, sequence, body)
 }
@@ -34,12 +54,6 @@ fn structure(command: u8) -> Vec<u8> {
         kind::UPDATE_KEY_VALIDITIES => k_validity(1, 5, 6),
         _ => k_entities(1, &peers(1, 1)),
     }
-}
-
-fn unsound(edition: Edition) -> Vec<u8> {
-    let mut store = encode(edition, &entries(&[1]));
-    store[edition.length() - 1] = 1;
-    store
 }
 
 /// A sound store of the other edition, cut or filled up with zeros to the length of this one.
@@ -61,17 +75,30 @@ fn assert_response(message: &[u8], response: u8, state: u8) {
     }
 }
 
-/// Asserts one reply with a RESPONSE other than 0, that the store stays, and the session.
+/// Asserts the RESPONSE, whatever other number is remembered.
 fn assert_response_over(store: Vec<u8>, message: &[u8], response: u8, state: u8) {
+    for session in remembering_others(open_session()) {
+        assert_response_from(session, store.clone(), message, response, state);
+    }
+}
+
+/// Asserts one reply with a RESPONSE other than 0, that the store stays, and the session.
+fn assert_response_from(session: Session, store: Vec<u8>, message: &[u8], response: u8, state: u8) {
     let mut bench = Bench::new(EDITION_1, &[]);
+    bench.session = session;
     bench.store = store.clone();
-    bench.assert_reply(message, &reply(700, response, &[]));
+    bench.assert_reply(message, &reply(message, 700, response, &[]));
     assert_eq!(bench.store, store);
+    let heard = if [2, 5, 4, 3, 9].contains(&response) {
+        session
+    } else {
+        remembering(number_of(message), session)
+    };
     let expected = Session {
         state,
         next: 701,
         expected: if state == OPEN { 301 } else { 300 },
-        ..open_session()
+        ..heard
     };
     assert_eq!(bench.session, expected);
 }
@@ -106,6 +133,8 @@ fn begin_writes_a_session_init() {
         peer: CENTRE,
         next: 0x1235,
         expected: 0,
+        remembered: false,
+        transaction: 0,
     };
     assert_eq!(session, expected);
 }
@@ -151,18 +180,20 @@ fn a_session_init_opens() {
 }
 
 fn assert_opened(edition: Edition, sequence: u16, body: &[u8]) {
-    let mut bench = Bench::new(edition, &entries(&[1]));
-    bench.session = waiting();
-    let answer = bench.receive(&session_init(sequence, body));
-    assert_eq!(answer, Answer::Opened);
-    let opened = Session {
-        state: OPEN,
-        expected: sequence.wrapping_add(1),
-        ..waiting()
-    };
-    assert_eq!(bench.session, opened);
-    assert_eq!(bench.out, [0xee; 1032]);
-    assert_eq!(bench.store, encode(edition, &entries(&[1])));
+    for session in remembering_others(waiting()) {
+        let mut bench = Bench::new(edition, &entries(&[1]));
+        bench.session = session;
+        let answer = bench.receive(&session_init(sequence, body));
+        assert_eq!(answer, Answer::Opened);
+        let opened = Session {
+            state: OPEN,
+            expected: sequence.wrapping_add(1),
+            ..waiting()
+        };
+        assert_eq!(bench.session, opened);
+        assert_eq!(bench.out, [0xee; 1032]);
+        assert_eq!(bench.store, encode(edition, &entries(&[1])));
+    }
 }
 
 #[test]
@@ -222,16 +253,18 @@ fn anything_else_closes_a_waiting_session() {
 }
 
 fn assert_not_opened(edition: Edition, message: &[u8]) {
-    let mut bench = Bench::new(edition, &entries(&[1]));
-    bench.session = waiting();
-    assert_eq!(bench.receive(message), Answer::Refused(5));
-    let closed = Session {
-        state: CLOSED,
-        ..waiting()
-    };
-    assert_eq!(bench.session, closed);
-    assert_eq!(bench.out, [0xee; 1032]);
-    assert_eq!(bench.store, encode(edition, &entries(&[1])));
+    for session in remembering_others(waiting()) {
+        let mut bench = Bench::new(edition, &entries(&[1]));
+        bench.session = session;
+        assert_eq!(bench.receive(message), Answer::Refused(5));
+        let closed = Session {
+            state: CLOSED,
+            ..session
+        };
+        assert_eq!(bench.session, closed);
+        assert_eq!(bench.out, [0xee; 1032]);
+        assert_eq!(bench.store, encode(edition, &entries(&[1])));
+    }
 }
 
 #[test]
@@ -407,7 +440,7 @@ fn delete_all_takes_any_store() {
             let mut bench = Bench::new(edition, &[]);
             bench.store = store;
             let command = message(kind::DELETE_ALL_KEYS, 300, &[]);
-            bench.assert_reply(&command, &reply(700, 0, &[]));
+            bench.assert_reply(&command, &reply(&command, 700, 0, &[]));
             assert_eq!(bench.store, encode(edition, &[]));
             assert_eq!((bench.session.state, bench.session.expected), (OPEN, 301));
         }
@@ -425,7 +458,7 @@ fn end_of_update_closes_and_writes_nothing() {
             assert_eq!(bench.receive(&end), Answer::Ended);
             let closed = Session {
                 state: CLOSED,
-                ..open_session()
+                ..remembering(transaction(300), open_session())
             };
             assert_eq!(bench.session, closed);
             assert_eq!(bench.out, [0xee; 1032]);
@@ -446,9 +479,17 @@ fn rows_are_tested_in_order() {
 fn assert_rows_in_order(store: Vec<u8>) {
     let right = message(kind::DELETE_KEYS, 300, &requests(&[k_identifier(1)]));
     let mut faulty = right.clone();
-    for at in [0, VERSION_AT, RECEIVER_AT, SENDER_AT, SEQUENCE_AT] {
+    for at in [
+        0,
+        VERSION_AT,
+        RECEIVER_AT,
+        SENDER_AT,
+        SEQUENCE_AT,
+        TRANSACTION_AT,
+    ] {
         faulty[at] ^= 1;
     }
+    let session = remembering(number_of(&faulty), open_session());
     faulty[TYPE_AT] = 200;
     faulty[20] = 1;
     let mend = [
@@ -457,37 +498,36 @@ fn assert_rows_in_order(store: Vec<u8>) {
         (4, RECEIVER_AT, CLOSED),
         (3, SENDER_AT, CLOSED),
         (9, SEQUENCE_AT, CLOSED),
+        (10, TRANSACTION_AT, CLOSED),
         (1, TYPE_AT, OPEN),
         (11, 20, CLOSED),
     ];
     for (response, at, state) in mend {
-        assert_response_over(store.clone(), &faulty, response, state);
+        assert_response_from(session, store.clone(), &faulty, response, state);
         faulty[at] = right[at];
     }
     assert_eq!(faulty, right);
-    assert_response_over(store, &faulty, 6, OPEN);
+    assert_response_from(session, store, &faulty, 6, OPEN);
 }
 
 #[test]
 fn a_reply_has_the_received_transaction_number() {
-    for number in [[0; 4], [0, 0, 0, 1], [0xff; 4]] {
-        for (sequence, response) in [(300, 0), (301, 9)] {
+    for number in [0, 1, 0x0102_0304, u32::MAX] {
+        let last = remembering(number, open_session());
+        let cases = [
+            (open_session(), 300, 0),
+            (open_session(), 301, 9),
+            (last, 301, 9),
+            (last, 300, 10),
+        ];
+        for (session, sequence, response) in cases {
             let mut bench = Bench::new(EDITION_1, &[]);
-            let mut command = message(kind::DELETE_ALL_KEYS, sequence, &[]);
-            command[13..17].copy_from_slice(&number);
-            let mut expected = reply(700, response, &[]);
-            expected[13..17].copy_from_slice(&number);
-            bench.assert_reply(&command, &expected);
+            bench.session = session;
+            let command = numbered(number, kind::DELETE_ALL_KEYS, sequence, &[]);
+            bench.receive(&command);
+            assert_eq!(bench.out[13..17], number.to_be_bytes());
+            assert_eq!(bench.out[..23], reply(&command, 700, response, &[]));
         }
-    }
-}
-
-#[test]
-fn a_repeated_transaction_number_is_not_looked_at() {
-    let mut bench = Bench::new(EDITION_1, &[]);
-    for i in 0..3 {
-        let command = message(kind::DELETE_ALL_KEYS, 300 + i, &[]);
-        bench.assert_reply(&command, &reply(700 + i, 0, &[]));
     }
 }
 
@@ -626,14 +666,17 @@ fn assert_refused(store_length: usize, room: usize, state: u8, length: usize, re
         state,
         ..open_session()
     };
-    let mut store = vec![0xdd; store_length];
-    let mut out = vec![0xee; room];
-    let message = &message(kind::DELETE_ALL_KEYS, 300, &[])[..length];
-    let (after, answer) = receive(session, message, &mut store, &mut out);
-    assert_eq!(answer, Answer::Refused(refusal));
-    assert_eq!(after, session);
-    assert_eq!(store, vec![0xdd; store_length]);
-    assert_eq!(out, vec![0xee; room]);
+    let repeated = remembering(transaction(300), session);
+    for session in remembering_others(session).into_iter().chain([repeated]) {
+        let mut store = vec![0xdd; store_length];
+        let mut out = vec![0xee; room];
+        let message = &message(kind::DELETE_ALL_KEYS, 300, &[])[..length];
+        let (after, answer) = receive(session, message, &mut store, &mut out);
+        assert_eq!(answer, Answer::Refused(refusal));
+        assert_eq!(after, session);
+        assert_eq!(store, vec![0xdd; store_length]);
+        assert_eq!(out, vec![0xee; room]);
+    }
 }
 
 #[test]

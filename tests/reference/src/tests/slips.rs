@@ -1,7 +1,9 @@
 //! The slips of 01, "Slips seen in other yards": each test fails for a module that has one.
 
-use super::{entries, entry, identifier, k_struct_for, message, peers, reply, Bench};
-use super::{OWN, RECEIVER_AT, SENDER_AT, SEQUENCE_AT};
+use super::{
+    entries, entry, identifier, k_struct_for, message, numbered, peers, remembering, reply,
+};
+use super::{Bench, OWN, RECEIVER_AT, SENDER_AT, SEQUENCE_AT};
 use crate::authentication::mac;
 use crate::des::Des;
 use crate::message::kind;
@@ -22,7 +24,7 @@ fn all_four_bytes_of_receiver_and_sender_are_compared() {
             let mut bench = Bench::new(EDITION_1, &[]);
             let mut wrong = message(kind::DELETE_ALL_KEYS, 300, &[]);
             wrong[at] ^= 1;
-            bench.assert_reply(&wrong, &reply(700, response, &[]));
+            bench.assert_reply(&wrong, &reply(&wrong, 700, response, &[]));
         }
     }
 }
@@ -127,9 +129,11 @@ fn the_expected_number_stays_when_a_session_closes() {
     let mut wrong_length = message(kind::DELETE_ALL_KEYS, 300, &[]);
     wrong_length[3] ^= 1;
     let format_error = message(kind::DELETE_ALL_KEYS, 300, &[0]);
+    let repeated = numbered(7, kind::DELETE_ALL_KEYS, 300, &[]);
     let end = message(kind::END_OF_UPDATE, 300, &[]);
-    for closing in [wrong_sequence, wrong_length, format_error, end] {
+    for closing in [wrong_sequence, wrong_length, repeated, format_error, end] {
         let mut bench = Bench::new(EDITION_1, &[]);
+        bench.session = remembering(7, bench.session);
         bench.receive(&closing);
         assert_eq!(bench.session.state, CLOSED);
         assert_eq!(bench.session.expected, 300);

@@ -1,0 +1,196 @@
+-- What is remembered of a message's transaction number: the claims of specs/Claims.antt on it, proved.
+-- Assumes nothing.
+use mathlib.Core.Path.{_≡_, refl, sym, ap, _∙_, subst}
+use mathlib.Core.Bool.{Bool, true, false, cond}
+use mathlib.Core.List.{List, []}
+use Prim.Native.Nat.{ℕ}
+use native.Mathlib.Omega.{arith}
+use lib.Dec.{eqb, leb}
+use lib.ListN.{length, getD}
+use borrow.Author.Tests.{eqb-true, eqb-false, eq-eqb}
+use Rattle.octets.specs.Bytes.{splice}
+use Rattle.octets.proofs.BoolLaws.{and-left, and-right, and-both}
+use Rattle.store.specs.declared.Limits.{Limits}
+use Rattle.store.specs.declared.Edition.{Edition}
+use Rattle.store.specs.declared.Edition.the-variants.{Known, Unknown}
+use Rattle.store.specs.Layout.{editionOf}
+use Rattle.message.specs.declared.Task.{Task}
+use Rattle.message.specs.declared.Task.the-variants.{Requests, DeleteAll, EndOfUpdate}
+use Rattle.message.specs.Header.{transaction}
+use Rattle.session.specs.declared.Session.{Session}
+use Rattle.session.specs.Sessions.{State, Closed, Waiting, Open, stateOf, remembering}
+use Rattle.session.specs.Rules.{Answered, reply, opened, ended, refused, Outcome, refuse, respond, headerTests, allPass, Verdict, passed, failed, verdict, judged, heard, obey, opens, whileWaiting, inState, receiveIn, receive}
+use Rattle.session.specs.Claims.{Recalls, beside, SameBeside, HeardIsRemembered, NotHeard, OpeningForgets, NoneIsNone, IsTen, RepeatedIsTen, TenIsRepeated}
+use Rattle.session.proofs.SessionLaws.{begin-made}
+use Rattle.session.proofs.OutcomeLaws.{repeated-judged, open-long, in-open, received}
+use Rattle.session.proofs.TestLaws.{heard-old, heard-new}
+use Rattle.session.proofs.RuleLaws.{receive-ends}
+
+-- ---- what a session remembers
+
+module _ (e : Session) (m s out : List ℕ) where
+  heard-recalls : allPass (headerTests e m) ≡ true → Recalls true (transaction m) (heard e m)
+  heard-recalls h = subst (Recalls true (transaction m)) (sym (heard-new e m h)) (record { remembered-is = refl; number-is = refl })
+
+  old-recalls : allPass (headerTests e m) ≡ false → Recalls (e .remembered) (e .transaction) (heard e m)
+  old-recalls h = subst (Recalls (e .remembered) (e .transaction)) (sym (heard-old e m h)) (record { remembered-is = refl; number-is = refl })
+
+  -- neither a reply nor end of update changes it
+  module _ (d : Session) {remembered : Bool} {number : ℕ} (r : Recalls remembered number d) where
+    replied-recalls : (response : ℕ) (then : State) → Recalls remembered number (respond response [] then d m s out .session)
+    unfolding respond
+    replied-recalls response then = record { remembered-is = r .remembered-is; number-is = r .number-is }
+
+    obeyed-recalls : (L : Limits) (task : Task) → Recalls remembered number (obey L task d m s out .session)
+    unfolding respond obey
+    obeyed-recalls L (Requests k) = record { remembered-is = r .remembered-is; number-is = r .number-is }
+    obeyed-recalls L DeleteAll = record { remembered-is = r .remembered-is; number-is = r .number-is }
+    obeyed-recalls L EndOfUpdate = record { remembered-is = r .remembered-is; number-is = r .number-is }
+
+pub heard-is-remembered : HeardIsRemembered
+unfolding refuse
+heard-is-remembered =
+    record {
+      recalled = λ e m s out h.
+          let r = heard-recalls e m s out h in
+          receive-ends (λ o. ((n : ℕ) → o .answer ≡ refused n → ⊥) → (o .answer ≡ opened → ⊥) → Recalls true (transaction m) (o .session)) e m s out
+          (λ n k f g. absurd (f n refl)) (λ f g. absurd (f 5 refl)) (λ f g. absurd (g refl))
+          (λ response then k f g. replied-recalls e m s out (heard e m) r response then) (λ L task l k f g. obeyed-recalls e m s out (heard e m) r L task);
+    }
+
+-- answers of two kinds are two answers
+rank : Answered → ℕ
+rank (reply n) = 0
+rank ended = 1
+rank opened = 2
+rank (refused n) = 3
+
+apart : (a b : Answered) → eqb (rank a) (rank b) ≡ false → a ≡ b → ⊥
+apart a b h q = eqb-false (rank a) (rank b) h (ap rank q)
+
+obeyed-apart : (d : Session) (m s out : List ℕ) (L : Limits) (task : Task) (b : Answered) → eqb 0 (rank b) ≡ false → eqb 1 (rank b) ≡ false → obey L task d m s out .answer ≡ b → ⊥
+unfolding respond obey rank
+obeyed-apart d m s out L (Requests k) b h g = apart _ b h
+obeyed-apart d m s out L DeleteAll b h g = apart _ b h
+obeyed-apart d m s out L EndOfUpdate b h g = apart _ b g
+
+pub not-heard : NotHeard
+unfolding refuse respond rank
+not-heard =
+    record {
+      after-fault = λ e m s out h.
+          let r = old-recalls e m s out h in
+          receive-ends (λ o. (o .answer ≡ opened → ⊥) → Recalls (e .remembered) (e .transaction) (o .session)) e m s out
+          (λ n k g. record { remembered-is = refl; number-is = refl }) (λ g. record { remembered-is = refl; number-is = refl }) (λ g. absurd (g refl))
+          (λ response then k g. replied-recalls e m s out (heard e m) r response then) (λ L task l k g. obeyed-recalls e m s out (heard e m) r L task);
+      after-refusal = λ e m s out n.
+          receive-ends (λ o. o .answer ≡ refused n → Recalls (e .remembered) (e .transaction) (o .session)) e m s out
+          (λ k h q. record { remembered-is = refl; number-is = refl }) (λ q. record { remembered-is = refl; number-is = refl }) (λ q. absurd (apart opened (refused n) refl q))
+          (λ response then k q. absurd (apart (reply 23) (refused n) refl q)) (λ L task l k q. absurd (obeyed-apart (heard e m) m s out L task (refused n) refl refl q));
+    }
+
+pub opening-forgets : OpeningForgets
+unfolding refuse respond rank
+opening-forgets =
+    record {
+      of-begin = λ own peer start out e n q. subst (Recalls false 0) (begin-made own peer start out e n q .0) (record { remembered-is = refl; number-is = refl });
+      of-message = λ e m s out.
+          receive-ends (λ o. o .answer ≡ opened → Recalls false 0 (o .session)) e m s out
+          (λ n h q. absurd (apart (refused n) opened refl q)) (λ q. absurd (apart (refused 5) opened refl q)) (λ q. record { remembered-is = refl; number-is = refl })
+          (λ response then k q. absurd (apart (reply 23) opened refl q)) (λ L task l k q. absurd (obeyed-apart (heard e m) m s out L task opened refl refl q));
+    }
+
+-- ---- a number beside none
+
+-- whatever becomes of two outcomes, one beside the other
+beside-either : (b : Bool) (o x o' x' : Outcome) → SameBeside o o' → SameBeside x x' → SameBeside (cond b o x) (cond b o' x')
+beside-either true o x o' x' p q = p
+beside-either false o x o' x' p q = q
+
+module _ (m s out : List ℕ) where
+  beside-refused : (e : Session) (n k : ℕ) → SameBeside (refuse k (beside e n) s out) (refuse k e s out)
+  unfolding refuse
+  beside-refused e n k = record { same-answer = refl; same-session = refl; same-store = refl; same-output = refl }
+
+  beside-judged : (L : Limits) (v : Verdict) (d : Session) (n : ℕ) → SameBeside (judged v L (beside d n) m s out) (judged v L d m s out)
+  unfolding respond obey
+  beside-judged L (failed response then) d n = record { same-answer = refl; same-session = refl; same-store = refl; same-output = refl }
+  beside-judged L (passed (Requests k)) d n = record { same-answer = refl; same-session = refl; same-store = refl; same-output = refl }
+  beside-judged L (passed DeleteAll) d n = record { same-answer = refl; same-session = refl; same-store = refl; same-output = refl }
+  beside-judged L (passed EndOfUpdate) d n = record { same-answer = refl; same-session = refl; same-store = refl; same-output = refl }
+
+  module _ (e : Session) (n : ℕ) (h : e .remembered ≡ false) where
+    beside-verdict : (L : Limits) → verdict L (beside e n) m s ≡ verdict L e m s
+    unfolding verdict
+    beside-verdict L = simp h
+
+    beside-heard : (b : Bool) (L : Limits) (v : Verdict)
+        → SameBeside (judged v L (cond b (remembering (beside e n) (transaction m)) (beside e n)) m s out) (judged v L (cond b (remembering e (transaction m)) e) m s out)
+    beside-heard true L v = beside-judged L v (remembering e (transaction m)) (transaction m)
+    beside-heard false L v = beside-judged L v e n
+
+    beside-open : (L : Limits) → SameBeside (judged (verdict L (beside e n) m s) L (heard (beside e n) m) m s out) (judged (verdict L e m s) L (heard e m) m s out)
+    unfolding heard
+    beside-open L =
+        subst (λ (v : Verdict). SameBeside (judged v L (heard (beside e n) m) m s out) (judged (verdict L e m s) L (heard e m) m s out)) (sym (beside-verdict L))
+        (beside-heard (allPass (headerTests e m)) L (verdict L e m s))
+
+    beside-waiting : SameBeside (whileWaiting (beside e n) m s out) (whileWaiting e m s out)
+    unfolding whileWaiting opens refuse
+    beside-waiting =
+        beside-either (opens e m) _ _ _ _ (record { same-answer = refl; same-session = refl; same-store = refl; same-output = refl })
+        (record { same-answer = refl; same-session = refl; same-store = refl; same-output = refl })
+
+    beside-state : (L : Limits) (t : State) → SameBeside (inState t L (beside e n) m s out) (inState t L e m s out)
+    unfolding inState
+    beside-state L Closed = beside-refused e n 3
+    beside-state L Waiting = beside-either (leb 20 (length m)) _ _ _ _ beside-waiting (beside-refused e n 4)
+    beside-state L Open = beside-either (leb 20 (length m)) _ _ _ _ (beside-open L) (beside-refused e n 4)
+
+    beside-edition : (E : Edition) → SameBeside (receiveIn E (beside e n) m s out) (receiveIn E e m s out)
+    unfolding receiveIn
+    beside-edition Unknown = beside-refused e n 1
+    beside-edition (Known L) = beside-either (leb 1032 (length out)) _ _ _ _ (beside-state L (stateOf (e .state))) (beside-refused e n 2)
+
+pub none-is-none : NoneIsNone
+unfolding receive
+none-is-none = record { any-number = λ e n m s out h. beside-edition m s out e n h (editionOf (length s)) }
+
+-- ---- RESPONSE 10
+
+ten-told : (s : List ℕ) (d : Session) (m out : List ℕ) → IsTen s (respond 10 [] Closed d m s out)
+unfolding respond splice
+ten-told s d m out = record { answer-is = refl; type-is = refl; response-is = refl; closed = refl; store-kept = refl }
+
+pub repeated-is-ten : RepeatedIsTen
+repeated-is-ten =
+    record {
+      second = λ e m s out h f g e' q o L m' s' out' is long head h' t.
+          let r = subst (Recalls true (transaction m)) (sym q) (heard-is-remembered .recalled e m s out h f g) in
+          let n = and-both (e' .remembered) (eqb (transaction m') (e' .transaction)) (r .remembered-is) (eq-eqb (transaction m') (e' .transaction) (t ∙ sym (r .number-is))) in
+          let d = remembering e' (transaction m') in
+          subst (IsTen s')
+          (repeated-judged L e' m' s' out' h' d refl n ∙ open-long L e' m' s' out' head ∙ in-open L e' m' s' out' long o ∙ received e' m' s' out' (Known L) (sym is))
+          (ten-told s' d m' out');
+    }
+
+-- a command past all tests is answered 0
+obeyed-zero : (d : Session) (m s out : List ℕ) (L : Limits) (task : Task) (n : ℕ) → obey L task d m s out .answer ≡ reply n → getD (obey L task d m s out .output) 20 0 ≡ 10 → ⊥
+unfolding respond obey splice rank
+obeyed-zero d m s out L (Requests k) n q z = omega arith
+obeyed-zero d m s out L DeleteAll n q z = omega arith
+obeyed-zero d m s out L EndOfUpdate n q z = apart ended (reply n) refl q
+
+pub ten-is-repeated : TenIsRepeated
+unfolding refuse respond splice rank
+ten-is-repeated =
+    record {
+      only = λ e m s out n.
+          receive-ends (λ o. o .answer ≡ reply n → getD (o .output) 19 0 ≡ 11 → getD (o .output) 20 0 ≡ 10 → Recalls true (transaction m) e) e m s out
+          (λ k h q y z. absurd (apart (refused k) (reply n) refl q)) (λ q y z. absurd (apart (refused 5) (reply n) refl q)) (λ q y z. absurd (apart opened (reply n) refl q))
+          (λ response then k q y z.
+          let both = k .ten z in
+          let is = eqb (transaction m) (e .transaction) in
+          record { remembered-is = and-left (e .remembered) is both; number-is = sym (eqb-true (transaction m) (e .transaction) (and-right (e .remembered) is both)) })
+          (λ L task l k q y z. absurd (obeyed-zero (heard e m) m s out L task n q z));
+    }
