@@ -207,7 +207,7 @@ static void receive_kmac(void)
     made.answer = kmac_receive(session, m->bytes, m->length, made.store, store_len, made.out, sizeof made.out);
 }
 
-/* Identities and numbers of the open session, as the session init and the message itself have them. */
+/* Identities and numbers of the open session, as the session init and the message itself have them; no transaction number. */
 static void receive_reference(void)
 {
     const struct message *m = &now->message;

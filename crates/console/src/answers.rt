@@ -70,7 +70,7 @@ fn results(s: &[u8]) {
     }
 }
 
-// What each RESPONSE other than 0 says (000, 5.3.15), of those that the module gives.
+// What the module means by each RESPONSE but 0. The numbers are those of 000, 5.3.15.
 fn meaning(code: u8) {
     match code {
         1 => text(b" request not supported"),

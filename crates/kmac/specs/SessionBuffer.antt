@@ -19,10 +19,11 @@ abbrev pub flag : Bool → ℕ
 flag true = 1
 flag false = 0
 
--- the state, the flag, the own next number, the number expected next, own identity, peer identity, the transaction number, zeros
+-- the state, byte 1, the own next number, the number expected next, own identity, peer identity, the transaction number, zeros
 abbrev pub bytesWith : ℕ → Session → List ℕ
-bytesWith flag e = e .state ∷ flag ∷ be16 (e .next) ++ (be16 (e .expected) ++ (be32 (e .own) ++ (be32 (e .peer) ++ (be32 (e .transaction) ++ replicate 14 0))))
+bytesWith byte1 e = e .state ∷ byte1 ∷ be16 (e .next) ++ (be16 (e .expected) ++ (be32 (e .own) ++ (be32 (e .peer) ++ (be32 (e .transaction) ++ replicate 14 0))))
 
+-- byte 1 is the flag
 abbrev pub sessionBytes : Session → List ℕ
 sessionBytes e = bytesWith (flag (e .remembered)) e
 

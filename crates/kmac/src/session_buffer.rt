@@ -39,12 +39,12 @@ fn flag(remembered: bool) -> u8
     0
 }
 
-fn bytes_with(flag: u8, session: Session) -> [u8; 32]
-    ensures { λ r. ⌜ r ≡ bytesWith flag session ⌝ }
+fn bytes_with(byte1: u8, session: Session) -> [u8; 32]
+    ensures { λ r. ⌜ r ≡ bytesWith byte1 session ⌝ }
 {
     [
         session.state,
-        flag,
+        byte1,
         (session.next / 256 % 256) as u8,
         (session.next % 256) as u8,
         (session.expected / 256 % 256) as u8,

@@ -10,8 +10,9 @@ use Rattle.store.specs.Store.{peersOf, header, keyRecord, keyRecords, encode, e
 use Rattle.store.specs.Search.{placeWhere, latest, findIn, find}
 use Rattle.store.specs.Request.{firstReason, result, done, after, work}
 use Rattle.message.specs.Header.{kindOf}
+use Rattle.message.specs.Written.{initOk}
 use Rattle.message.specs.Body.{sizeAt, fieldsOk, requestAt, fieldsFrom, requestsFrom, requests, bodyOk}
-use Rattle.session.specs.Rules.{respond, firstFailed, allPass, verdict, heard, obey, inState, receiveIn, receive}
+use Rattle.session.specs.Rules.{respond, firstFailed, allPass, verdict, heard, obey, opens, whileWaiting, inState, receiveIn, receive}
 use Rattle.runs.specs.Starred.{hold, starred, larger, transactions}
 
 pub starred-hold : hold starred ≡ true
@@ -23,5 +24,5 @@ unfolding hold larger same receive receiveIn editionOf editionIn inState verdict
 larger-hold = refl
 
 pub transactions-hold : hold transactions ≡ true
-unfolding hold transactions same receive receiveIn editionOf editionIn inState verdict firstFailed heard allPass obey respond kindOf bodyOk fieldsFrom fieldsOk sizeAt requests requestsFrom requestAt work after result firstReason done placeWhere peersOf encode header keyRecord keyRecords words numbers elem entries entriesFrom sound allHold headerOk countsOk sumsOk sumBefore uniqueOk newKey parityOk allOdd unusedOk allBelow allZero part splice ones find findIn latest
+unfolding hold transactions same receive receiveIn editionOf editionIn inState whileWaiting opens initOk verdict firstFailed heard allPass obey respond kindOf bodyOk fieldsFrom fieldsOk sizeAt requests requestsFrom requestAt work after result firstReason done placeWhere peersOf encode header keyRecord keyRecords words numbers elem entries entriesFrom sound allHold headerOk countsOk sumsOk sumBefore uniqueOk newKey parityOk allOdd unusedOk allBelow allZero part splice ones find findIn latest
 transactions-hold = refl

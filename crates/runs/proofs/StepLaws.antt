@@ -25,7 +25,7 @@ use Rattle.message.specs.Body.{bodyOk, requests, listOk}
 use Rattle.message.specs.Written.{replyBytes}
 use Rattle.session.specs.declared.Session.{Session}
 use Rattle.session.specs.Sessions.{State, Closed, Waiting, Open, stateOf, closing, opening}
-use Rattle.session.specs.Rules.{reply, opened, Outcome, refuse, respond, headerTests, typeTest, firstFailed, Verdict, passed, failed, verdict, allPass, heard, numberTests, obey, judged, opens, whileWaiting, inState, receiveIn, receive}
+use Rattle.session.specs.Rules.{reply, opened, Outcome, refuse, respond, headerTests, typeTest, firstFailed, Verdict, passed, failed, verdict, allPass, heard, transactionTests, obey, judged, opens, whileWaiting, inState, receiveIn, receive}
 use Rattle.session.proofs.RuleLaws.{Passed, Says, verdict-says}
 use Rattle.runs.specs.Calls.{replyOf}
 use Rattle.runs.specs.Alike.{AlikeMessages}
@@ -123,7 +123,7 @@ module _ (L : Limits) (m m' : List ℕ) (ts : List Tag) (a : AlikeMessages m m')
   unfolding verdict
   verdict-same e =
       rw (x .length-ok, x .version-is, x .receiver-is, x .sender-is, x .sequence-is, x .transaction-is)
-      (ap (λ (w : Verdict). firstFailed (headerTests e m') (firstFailed (numberTests e m') w)) (typeTest-same (kind m) refl ∙ ap (λ (k : Kind). typeTest k L m' s') (x .kind-is)))
+      (ap (λ (w : Verdict). firstFailed (headerTests e m') (firstFailed (transactionTests e m') w)) (typeTest-same (kind m) refl ∙ ap (λ (k : Kind). typeTest k L m' s') (x .kind-is)))
 
   heard-same : (e : Session) → heard e m ≡ heard e m'
   unfolding heard allPass

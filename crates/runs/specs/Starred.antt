@@ -14,7 +14,7 @@ use Rattle.store.specs.Store.{Entry, encode, header as storeHeader}
 use Rattle.store.specs.Search.{Finding, found, unfound, find}
 use Rattle.message.specs.Written.{header}
 use Rattle.session.specs.declared.Session.{Session}
-use Rattle.session.specs.Sessions.{opening, remembering}
+use Rattle.session.specs.Sessions.{remembering}
 use Rattle.session.specs.Rules.{Outcome, receive}
 use Rattle.runs.specs.Calls.{replyOf}
 
@@ -24,9 +24,12 @@ use Rattle.runs.specs.Calls.{replyOf}
 abbrev pub expecting : ℕ → Session
 expecting n = record { state = 2; own = 1; peer = 2; next = 7; expected = n; remembered = false; transaction = 0 }
 
--- with the transaction number t
+-- a message with the transaction number t and the sequence number n
 abbrev pub numbered : ℕ → ℕ → ℕ → List ℕ → List ℕ
 numbered t n type body = header (20 + length body) 1 2 t n type ++ body
+
+abbrev pub deletesAll : ℕ → ℕ → List ℕ
+deletesAll t n = numbered t n 2 []
 
 abbrev pub from2to1 : ℕ → ℕ → List ℕ → List ℕ
 from2to1 n type body = numbered 9 n type body
@@ -141,9 +144,6 @@ adds peers = from2to1 5 0 (be16 1 ++ kStruct 3 6 1 key peers)
 abbrev pub replaces : List ℕ → List ℕ
 replaces peers = from2to1 5 4 (be16 1 ++ (be32 3 ++ (be32 5 ++ (be16 (length peers) ++ words peers))))
 
-abbrev pub deletesAll : List ℕ
-deletesAll = from2to1 5 2 []
-
 -- an empty store of an edition under the header of another
 abbrev pub headed : Limits → Limits → List ℕ
 headed L M = storeHeader L 0 0 ++ drop 12 (encode M [])
@@ -164,8 +164,8 @@ larger =
     ∷ (findsOn (headed edition1 edition2) 8 1 is (0 ∷ 12 ∷ []))
     ∷ (findsOn (headed edition2 edition1) 8 1 is (0 ∷ 12 ∷ []))
     -- delete all there: the empty store of the edition whose length the buffer has
-    ∷ (outcome (headed edition1 edition2) 5 deletesAll .store is encode edition2 [])
-    ∷ (outcome (headed edition2 edition1) 5 deletesAll .store is encode edition1 [])
+    ∷ (outcome (headed edition1 edition2) 5 (deletesAll 9 5) .store is encode edition2 [])
+    ∷ (outcome (headed edition2 edition1) 5 (deletesAll 9 5) .store is encode edition1 [])
     -- a byte less, and a byte more: H1
     ∷ (findsOn (drop 1 (encode edition1 [])) 8 1 is (0 ∷ 1 ∷ []))
     ∷ (findsOn (0 ∷ encode edition1 []) 8 1 is (0 ∷ 1 ∷ []))
@@ -175,12 +175,16 @@ larger =
 
 -- ---- transaction numbers
 
--- a message with the transaction number t and the sequence number n: a delete of one key, delete all, one of no type, end of update
+-- a waiting session that remembers 0
+abbrev pub waiting : Session
+waiting = record { state = 1; own = 1; peer = 2; next = 7; expected = 0; remembered = true; transaction = 0 }
+
+-- a session init, a delete of one key, a message of an unknown type, end of update
+abbrev pub opensWith : ℕ → ℕ → List ℕ
+opensWith t n = numbered t n 9 (1 ∷ 2 ∷ 255 ∷ [])
+
 abbrev pub deletes : ℕ → ℕ → ℕ → List ℕ
 deletes t n serial = numbered t n 1 (be16 1 ++ (be32 3 ++ be32 serial))
-
-abbrev pub deletesAllAs : ℕ → ℕ → List ℕ
-deletesAllAs t n = numbered t n 2 []
 
 abbrev pub unknownType : ℕ → ℕ → List ℕ
 unknownType t n = numbered t n 200 []
@@ -195,29 +199,31 @@ brought e m = receive e m (encode edition1 (holding 4 1 2 (8 ∷ []) ∷ holding
 abbrev pub second : Outcome → List ℕ → Outcome
 second o m = receive (o .session) m (o .store) (o .output)
 
--- RESPONSE, REQ-NUM and RESULTs, the state, and what is remembered
-abbrev pub recalls : Bool → ℕ → List ℕ
-recalls true n = 1 ∷ n ∷ []
-recalls false n = 0 ∷ n ∷ []
+abbrev pub rememberedAs : Bool → ℕ → List ℕ
+rememberedAs true n = 1 ∷ n ∷ []
+rememberedAs false n = 0 ∷ n ∷ []
 
-abbrev pub tells : Outcome → List ℕ
-tells o = drop 20 (replyOf (o .answer) (o .output)) ++ (o .session .state ∷ recalls (o .session .remembered) (o .session .transaction))
+-- RESPONSE, REQ-NUM and RESULTs, the state, and what is remembered
+abbrev pub left : Outcome → List ℕ
+left o = drop 20 (replyOf (o .answer) (o .output)) ++ (o .session .state ∷ rememberedAs (o .session .remembered) (o .session .transaction))
 
 unfoldable pub transactions : List Example
 transactions =
     -- two deletes with one number: 0, then 10 and closed
-    (tells (brought (expecting 5) (deletes 9 5 4)) is (0 ∷ 0 ∷ 1 ∷ 0 ∷ 2 ∷ 1 ∷ 9 ∷ []))
-    ∷ (tells (second (brought (expecting 5) (deletes 9 5 4)) (deletes 9 6 5)) is (10 ∷ 0 ∷ 0 ∷ 0 ∷ 1 ∷ 9 ∷ []))
+    (left (brought (expecting 5) (deletes 9 5 4)) is (0 ∷ 0 ∷ 1 ∷ 0 ∷ 2 ∷ 1 ∷ 9 ∷ []))
+    ∷ (left (second (brought (expecting 5) (deletes 9 5 4)) (deletes 9 6 5)) is (10 ∷ 0 ∷ 0 ∷ 0 ∷ 1 ∷ 9 ∷ []))
     -- with two numbers: 0 and 0
-    ∷ (tells (second (brought (expecting 5) (deletes 9 5 4)) (deletes 8 6 5)) is (0 ∷ 0 ∷ 1 ∷ 0 ∷ 2 ∷ 1 ∷ 8 ∷ []))
+    ∷ (left (second (brought (expecting 5) (deletes 9 5 4)) (deletes 8 6 5)) is (0 ∷ 0 ∷ 1 ∷ 0 ∷ 2 ∷ 1 ∷ 8 ∷ []))
     -- the number 0 in the first message after opening: worked, and remembered as any other
-    ∷ (tells (brought (opening (remembering (expecting 9) 0) 4) (deletesAllAs 0 5)) is (0 ∷ 0 ∷ 0 ∷ 2 ∷ 1 ∷ 0 ∷ []))
-    ∷ (tells (brought (remembering (expecting 5) 0) (deletesAllAs 0 5)) is (10 ∷ 0 ∷ 0 ∷ 0 ∷ 1 ∷ 0 ∷ []))
+    ∷ (left (brought waiting (opensWith 0 4)) is (2 ∷ 0 ∷ 0 ∷ []))
+    ∷ (left (second (brought waiting (opensWith 0 4)) (deletesAll 0 5)) is (0 ∷ 0 ∷ 0 ∷ 2 ∷ 1 ∷ 0 ∷ []))
+    ∷ (left (brought (remembering (expecting 5) 0) (deletesAll 0 5)) is (10 ∷ 0 ∷ 0 ∷ 0 ∷ 1 ∷ 0 ∷ []))
     -- a session that remembers 9: another number is worked, and end of update with 9 is answered 10
-    ∷ (tells (brought (remembering (expecting 5) 9) (deletesAllAs 10 5)) is (0 ∷ 0 ∷ 0 ∷ 2 ∷ 1 ∷ 10 ∷ []))
-    ∷ (tells (brought (remembering (expecting 5) 9) (endsUpdate 9 5)) is (10 ∷ 0 ∷ 0 ∷ 0 ∷ 1 ∷ 9 ∷ []))
-    ∷ (tells (brought (remembering (expecting 5) 9) (endsUpdate 10 5)) is (0 ∷ 1 ∷ 10 ∷ []))
-    -- after RESPONSE 1 the number is remembered, and after 9 it is not
-    ∷ (tells (second (brought (expecting 5) (unknownType 9 5)) (unknownType 9 6)) is (10 ∷ 0 ∷ 0 ∷ 0 ∷ 1 ∷ 9 ∷ []))
-    ∷ (tells (brought (remembering (expecting 5) 9) (unknownType 10 6)) is (9 ∷ 0 ∷ 0 ∷ 0 ∷ 1 ∷ 9 ∷ []))
+    ∷ (left (brought (remembering (expecting 5) 9) (deletesAll 10 5)) is (0 ∷ 0 ∷ 0 ∷ 2 ∷ 1 ∷ 10 ∷ []))
+    ∷ (left (brought (remembering (expecting 5) 9) (endsUpdate 9 5)) is (10 ∷ 0 ∷ 0 ∷ 0 ∷ 1 ∷ 9 ∷ []))
+    ∷ (left (brought (remembering (expecting 5) 9) (endsUpdate 10 5)) is (0 ∷ 1 ∷ 10 ∷ []))
+    -- after RESPONSE 1 the number is remembered, and after 9, which is tested first, it is not
+    ∷ (left (second (brought (expecting 5) (unknownType 9 5)) (unknownType 9 6)) is (10 ∷ 0 ∷ 0 ∷ 0 ∷ 1 ∷ 9 ∷ []))
+    ∷ (left (brought (remembering (expecting 5) 9) (unknownType 10 6)) is (9 ∷ 0 ∷ 0 ∷ 0 ∷ 1 ∷ 9 ∷ []))
+    ∷ (left (brought (remembering (expecting 5) 9) (unknownType 9 6)) is (9 ∷ 0 ∷ 0 ∷ 0 ∷ 1 ∷ 9 ∷ []))
     ∷ []

@@ -30,7 +30,7 @@ use Rattle.session.specs.declared.Session.{Session}
 use Rattle.session.specs.declared.Received.{Received}
 use Rattle.session.specs.declared.Received.the-variants as received-as
 use Rattle.session.specs.Sessions.{Closed, Open, closing, remembering, replied}
-use Rattle.session.specs.Rules.{Outcome, refuse, respond, test, headerTests, numberTests, repeats, Verdict, failed, passed, firstFailed, allPass, typeTest, verdict, heard, obey, judged, whileWaiting, inState, receiveIn, receive, reply, Does}
+use Rattle.session.specs.Rules.{Outcome, refuse, respond, test, headerTests, transactionTests, repeats, Verdict, failed, passed, firstFailed, allPass, typeTest, verdict, heard, obey, judged, whileWaiting, inState, receiveIn, receive, reply, Does}
 use Rattle.session.specs.Parts.{Faults, Refuses, Reports, workIfSound}
 use Rattle.session.proofs.TestLaws.{tests-pass, header-fails, heard-old, heard-new}
 
@@ -114,23 +114,15 @@ module _ (L : Limits) (e : Session) (m s out : List ℕ) where
         sym (ap₂ (λ (v : Verdict) (d : Session). judged v L d m s out) (f .by _) (heard-old e m (header-fails e m r f h))
         ∙ simp (ne-eqb r 0 h))
 
-  -- a message past the header tests, to a session that remembers its number
+  -- a message past the header tests; d is the session with its number remembered
   module _ (h : allPass (headerTests e m) ≡ true) (d : Session) (q : d ≡ remembering e (transaction m)) where
-    number-judged : (b : Bool) → repeats e (transaction m) ≡ b
+    pub transaction-judged : (b : Bool) → repeats e (transaction m) ≡ b
         → judged (firstFailed (test (not b) 10 Closed ∷ []) (typeTest (kind m) L m s)) L d m s out ≡ judged (verdict L e m s) L (heard e m) m s out
     unfolding verdict
-    number-judged b n =
+    transaction-judged b n =
         ap₂ (λ (v : Verdict) (x : Session). judged v L x m s out)
-        (ap (λ (c : Bool). firstFailed (test (not c) 10 Closed ∷ []) (typeTest (kind m) L m s)) (sym n) ∙ sym (tests-pass (headerTests e m) h (firstFailed (numberTests e m) (typeTest (kind m) L m s))))
+        (ap (λ (c : Bool). firstFailed (test (not c) 10 Closed ∷ []) (typeTest (kind m) L m s)) (sym n) ∙ sym (tests-pass (headerTests e m) h (firstFailed (transactionTests e m) (typeTest (kind m) L m s))))
         (q ∙ sym (heard-new e m h))
-
-    pub repeated-judged : repeats e (transaction m) ≡ true → respond 10 [] Closed d m s out ≡ judged (verdict L e m s) L (heard e m) m s out
-    unfolding firstFailed
-    repeated-judged = number-judged true
-
-    pub type-judged : repeats e (transaction m) ≡ false → judged (typeTest (kind m) L m s) L d m s out ≡ judged (verdict L e m s) L (heard e m) m s out
-    unfolding firstFailed
-    type-judged = number-judged false
 
   -- ---- the refusals
 

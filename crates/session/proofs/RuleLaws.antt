@@ -1,6 +1,6 @@
 -- What a verdict tells of its message, and the ways that a message can take.
 -- Assumes nothing.
-use mathlib.Core.Path.{_≡_, refl}
+use mathlib.Core.Path.{_≡_, refl, ap}
 use mathlib.Core.Bool.{Bool, true, false, _&&_, not, cond}
 use mathlib.Core.List.{List, [], _∷_}
 use Prim.Native.Nat.{ℕ}
@@ -19,7 +19,19 @@ use Rattle.message.specs.Header.{transaction, sequence, kind}
 use Rattle.message.specs.Body.{bodyOk}
 use Rattle.session.specs.declared.Session.{Session}
 use Rattle.session.specs.Sessions.{State, Closed, Waiting, Open, stateOf, closing, opening}
-use Rattle.session.specs.Rules.{opened, Outcome, refuse, respond, Test, test, lengthOk, headerTests, repeats, numberTests, bodyTests, Verdict, failed, passed, firstFailed, allPass, typeTest, verdict, heard, obey, judged, opens, whileWaiting, inState, receiveIn, receive}
+use Rattle.session.specs.Rules.{Answered, reply, ended, opened, refused, Outcome, refuse, respond, Test, test, lengthOk, headerTests, repeats, transactionTests, bodyTests, Verdict, failed, passed, firstFailed, allPass, typeTest, verdict, heard, obey, judged, opens, whileWaiting, inState, receiveIn, receive}
+
+-- ---- answers
+
+-- answers of two kinds are two answers
+abbrev pub rank : Answered → ℕ
+rank (reply n) = 0
+rank ended = 1
+rank opened = 2
+rank (refused n) = 3
+
+pub apart : (a b : Answered) → eqb (rank a) (rank b) ≡ false → a ≡ b → ⊥
+apart a b h q = eqb-false (rank a) (rank b) h (ap rank q)
 
 -- ---- a verdict
 
@@ -29,10 +41,10 @@ pub record Passed (m : List ℕ) (task : Task) : Type 0 where
   pub kind-is : kind m ≡ Asks task
   pub body-ok : bodyOk task m ≡ true
 
--- a test that fails gives a RESPONSE other than 0, and 10 for a repeated transaction number only
+-- a test that fails gives a RESPONSE other than 0, and 10 only for a repeated transaction number behind a right header
 pub record Failed (e : Session) (m : List ℕ) (response : ℕ) : Type 0 where
   pub not-zero : eqb response 0 ≡ false
-  pub ten : response ≡ 10 → repeats e (transaction m) ≡ true
+  pub ten : response ≡ 10 → (allPass (headerTests e m) ≡ true) × (repeats e (transaction m) ≡ true)
 
 unfoldable pub Says : Session → List ℕ → Verdict → Type 0
 Says e m (failed response then) = Failed e m response
@@ -58,10 +70,10 @@ tests-say e m (test false response then ∷ ts) v p q =
 
 module _ (L : Limits) (e : Session) (m s : List ℕ) where
   -- the row of the transaction number
-  number-says : (n : Bool) → repeats e (transaction m) ≡ n → (then : State) (v : Verdict) → Says e m v → Says e m (firstFailed (test (not n) 10 then ∷ []) v)
+  transaction-says : allPass (headerTests e m) ≡ true → (n : Bool) → repeats e (transaction m) ≡ n → (then : State) (v : Verdict) → Says e m v → Says e m (firstFailed (test (not n) 10 then ∷ []) v)
   unfolding Says firstFailed
-  number-says true q then v p = record { not-zero = refl; ten = λ z. q }
-  number-says false q then v p = p
+  transaction-says h true q then v p = record { not-zero = refl; ten = λ z. (h, q) }
+  transaction-says h false q then v p = p
 
   typeTest-says : lengthOk m ≡ true → (k : Kind) → kind m ≡ k → Says e m (typeTest k L m s)
   unfolding Says plain allPass
@@ -73,8 +85,8 @@ module _ (L : Limits) (e : Session) (m s : List ℕ) where
   pub verdict-says : Says e m (verdict L e m s)
   unfolding verdict plain allPass
   verdict-says =
-      tests-say e m (headerTests e m) (firstFailed (numberTests e m) (typeTest (kind m) L m s)) refl (λ h.
-      number-says (repeats e (transaction m)) refl _ (typeTest (kind m) L m s) (typeTest-says (and-left (lengthOk m) _ h) (kind m) refl))
+      tests-say e m (headerTests e m) (firstFailed (transactionTests e m) (typeTest (kind m) L m s)) refl (λ h.
+      transaction-says h (repeats e (transaction m)) refl _ (typeTest (kind m) L m s) (typeTest-says (and-left (lengthOk m) _ h) (kind m) refl))
 
 -- ---- the ways of a message: what holds at the end of each holds of what the message leaves
 

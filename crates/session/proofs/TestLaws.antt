@@ -1,4 +1,4 @@
--- Lists of tests, and what the header tests say of the session that is heard.
+-- Lists of tests, and what the header tests say of the number that is remembered.
 -- Assumes nothing.
 use mathlib.Core.Path.{_≡_, refl, sym, _∙_}
 use mathlib.Core.Bool.{Bool, true, false}

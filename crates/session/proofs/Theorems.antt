@@ -21,9 +21,9 @@ use Rattle.message.proofs.BodyLaws.{listed}
 use Rattle.command.proofs.WorkLaws.{results-length}
 use Rattle.session.specs.declared.Session.{Session}
 use Rattle.session.specs.Sessions.{closing, Beginning, beginOutput}
-use Rattle.session.specs.Rules.{Answered, reply, refused, Outcome, refuse, respond, heard, obey, receive}
+use Rattle.session.specs.Rules.{Answered, reply, opened, ended, refused, Outcome, refuse, respond, heard, obey, receive}
 use Rattle.session.specs.Claims.{RefusalWritesNothing, OnlyZeroChangesStore, TornLeavesStore, RefusalLeavesSession, OnlyRepliesWrite, ReplyLength}
-use Rattle.session.proofs.RuleLaws.{Passed, receive-ends}
+use Rattle.session.proofs.RuleLaws.{apart, Passed, receive-ends}
 
 -- ---- what is no reply writes nothing
 
@@ -52,7 +52,7 @@ only-replies-write = record { of-store = λ e m s out. quiet e m s out .store-ke
 
 -- a refusal is no reply
 no-reply : (a : Answered) (k n : ℕ) → a ≡ refused k → a ≡ reply n → ⊥
-no-reply a k n p q = let z : _≡_ {A = ℕ} 0 1 = cc in omega arith
+no-reply a k n p q = apart (refused k) (reply n) refl (sym p ∙ q)
 
 pub refusal-writes-nothing : RefusalWritesNothing
 refusal-writes-nothing =
@@ -129,14 +129,14 @@ leaves e m s out n =
     receive-ends (Leaves e n) e m s out
     (λ k h. record { as-it-was = λ q f. refl; closed = λ q f. let j : k ≡ n = cc in absurd (eqb-false k 5 h (j ∙ f)) })
     (record { as-it-was = λ q f. let j : 5 ≡ n = cc in absurd (f (sym j)); closed = λ q f. refl })
-    (not-refused e n _ (λ q. let z : _≡_ {A = ℕ} 0 1 = cc in omega arith))
+    (not-refused e n _ (apart opened (refused n) refl))
     (λ response then h. not-refused e n (respond response [] then (heard e m) m s out) (λ q. no-reply _ n 23 q refl))
     (λ L task l h. obeyed (heard e m) L task)
   where
     obeyed : (d : Session) (L : Limits) (task : Task) → Leaves e n (obey L task d m s out)
     obeyed d L (Requests k) = not-refused e n (obey L (Requests k) d m s out) (λ q. no-reply _ n _ q refl)
     obeyed d L DeleteAll = not-refused e n (obey L DeleteAll d m s out) (λ q. no-reply _ n 23 q refl)
-    obeyed d L EndOfUpdate = not-refused e n (obey L EndOfUpdate d m s out) (λ q. let z : _≡_ {A = ℕ} 0 1 = cc in omega arith)
+    obeyed d L EndOfUpdate = not-refused e n (obey L EndOfUpdate d m s out) (apart ended (refused n) refl)
 
 pub refusal-leaves-session : RefusalLeavesSession
 refusal-leaves-session =
@@ -161,7 +161,7 @@ unfolding refuse respond obey requests
 long e m s out n =
     receive-ends (Long n) e m s out (λ k h. not-replied n (refuse k e s out) (no-reply _ k n refl))
     (not-replied n (refuse 5 (closing e) s out) (no-reply _ 5 n refl))
-    (not-replied n _ (λ q. let z : _≡_ {A = ℕ} 0 1 = cc in omega arith))
+    (not-replied n _ (apart opened (reply n) refl))
     (λ response then h. few-results n 0 (respond response [] then (heard e m) m s out) refl (lit≤ tt))
     (λ L task l h. obeyed (heard e m) L task h)
   where
@@ -170,7 +170,7 @@ long e m s out n =
         let c = requestNumber m in
         few-results n c (obey L (Requests k) d m s out) (ap (λ (x : ℕ). reply (23 + x)) (results-length L (d .own) k m c 22 (entries L s))) (listed k m (h .body-ok) .few)
     obeyed d L DeleteAll h = few-results n 0 (obey L DeleteAll d m s out) refl (lit≤ tt)
-    obeyed d L EndOfUpdate h = not-replied n (obey L EndOfUpdate d m s out) (λ q. let z : _≡_ {A = ℕ} 0 1 = cc in omega arith)
+    obeyed d L EndOfUpdate h = not-replied n (obey L EndOfUpdate d m s out) (apart ended (reply n) refl)
 
 pub reply-length : ReplyLength
 reply-length = record { from = λ e m s out n. long e m s out n .from; to = λ e m s out n. long e m s out n .to }

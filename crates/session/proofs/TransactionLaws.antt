@@ -19,78 +19,73 @@ use Rattle.message.specs.declared.Task.the-variants.{Requests, DeleteAll, EndOf
 use Rattle.message.specs.Header.{transaction}
 use Rattle.session.specs.declared.Session.{Session}
 use Rattle.session.specs.Sessions.{State, Closed, Waiting, Open, stateOf, remembering}
-use Rattle.session.specs.Rules.{Answered, reply, opened, ended, refused, Outcome, refuse, respond, headerTests, allPass, Verdict, passed, failed, verdict, judged, heard, obey, opens, whileWaiting, inState, receiveIn, receive}
+use Rattle.session.specs.Rules.{Answered, reply, opened, ended, refused, Outcome, refuse, respond, headerTests, allPass, Verdict, passed, failed, verdict, firstFailed, judged, heard, obey, opens, whileWaiting, inState, receiveIn, receive}
 use Rattle.session.specs.Claims.{Recalls, beside, SameBeside, HeardIsRemembered, NotHeard, OpeningForgets, NoneIsNone, IsTen, RepeatedIsTen, TenIsRepeated}
 use Rattle.session.proofs.SessionLaws.{begin-made}
-use Rattle.session.proofs.OutcomeLaws.{repeated-judged, open-long, in-open, received}
+use Rattle.session.proofs.OutcomeLaws.{transaction-judged, open-long, in-open, received}
 use Rattle.session.proofs.TestLaws.{heard-old, heard-new}
-use Rattle.session.proofs.RuleLaws.{receive-ends}
+use Rattle.session.proofs.RuleLaws.{rank, apart, receive-ends}
+use Rattle.session.proofs.Theorems.{refusal-leaves-session}
 
 -- ---- what a session remembers
 
-module _ (e : Session) (m s out : List ℕ) where
+module _ (e : Session) (m : List ℕ) where
   heard-recalls : allPass (headerTests e m) ≡ true → Recalls true (transaction m) (heard e m)
   heard-recalls h = subst (Recalls true (transaction m)) (sym (heard-new e m h)) (record { remembered-is = refl; number-is = refl })
 
   old-recalls : allPass (headerTests e m) ≡ false → Recalls (e .remembered) (e .transaction) (heard e m)
   old-recalls h = subst (Recalls (e .remembered) (e .transaction)) (sym (heard-old e m h)) (record { remembered-is = refl; number-is = refl })
 
-  -- neither a reply nor end of update changes it
-  module _ (d : Session) {remembered : Bool} {number : ℕ} (r : Recalls remembered number d) where
-    replied-recalls : (response : ℕ) (then : State) → Recalls remembered number (respond response [] then d m s out .session)
-    unfolding respond
-    replied-recalls response then = record { remembered-is = r .remembered-is; number-is = r .number-is }
+-- neither a reply nor end of update changes it
+module _ (m s out : List ℕ) (d : Session) {remembered : Bool} {number : ℕ} (r : Recalls remembered number d) where
+  replied-recalls : (response : ℕ) (then : State) → Recalls remembered number (respond response [] then d m s out .session)
+  unfolding respond
+  replied-recalls response then = record { remembered-is = r .remembered-is; number-is = r .number-is }
 
-    obeyed-recalls : (L : Limits) (task : Task) → Recalls remembered number (obey L task d m s out .session)
-    unfolding respond obey
-    obeyed-recalls L (Requests k) = record { remembered-is = r .remembered-is; number-is = r .number-is }
-    obeyed-recalls L DeleteAll = record { remembered-is = r .remembered-is; number-is = r .number-is }
-    obeyed-recalls L EndOfUpdate = record { remembered-is = r .remembered-is; number-is = r .number-is }
+  obeyed-recalls : (L : Limits) (task : Task) → Recalls remembered number (obey L task d m s out .session)
+  unfolding respond obey
+  obeyed-recalls L (Requests k) = record { remembered-is = r .remembered-is; number-is = r .number-is }
+  obeyed-recalls L DeleteAll = record { remembered-is = r .remembered-is; number-is = r .number-is }
+  obeyed-recalls L EndOfUpdate = record { remembered-is = r .remembered-is; number-is = r .number-is }
 
 pub heard-is-remembered : HeardIsRemembered
 unfolding refuse
 heard-is-remembered =
     record {
       recalled = λ e m s out h.
-          let r = heard-recalls e m s out h in
+          let r = heard-recalls e m h in
           receive-ends (λ o. ((n : ℕ) → o .answer ≡ refused n → ⊥) → (o .answer ≡ opened → ⊥) → Recalls true (transaction m) (o .session)) e m s out
           (λ n k f g. absurd (f n refl)) (λ f g. absurd (f 5 refl)) (λ f g. absurd (g refl))
-          (λ response then k f g. replied-recalls e m s out (heard e m) r response then) (λ L task l k f g. obeyed-recalls e m s out (heard e m) r L task);
+          (λ response then k f g. replied-recalls m s out (heard e m) r response then) (λ L task l k f g. obeyed-recalls m s out (heard e m) r L task);
     }
 
--- answers of two kinds are two answers
-rank : Answered → ℕ
-rank (reply n) = 0
-rank ended = 1
-rank opened = 2
-rank (refused n) = 3
-
-apart : (a b : Answered) → eqb (rank a) (rank b) ≡ false → a ≡ b → ⊥
-apart a b h q = eqb-false (rank a) (rank b) h (ap rank q)
-
 obeyed-apart : (d : Session) (m s out : List ℕ) (L : Limits) (task : Task) (b : Answered) → eqb 0 (rank b) ≡ false → eqb 1 (rank b) ≡ false → obey L task d m s out .answer ≡ b → ⊥
-unfolding respond obey rank
+unfolding respond obey
 obeyed-apart d m s out L (Requests k) b h g = apart _ b h
 obeyed-apart d m s out L DeleteAll b h g = apart _ b h
 obeyed-apart d m s out L EndOfUpdate b h g = apart _ b g
 
+refused-recalls : (e : Session) (m s out : List ℕ) (n : ℕ) → receive e m s out .answer ≡ refused n → (b : Bool) → eqb n 5 ≡ b
+    → Recalls (e .remembered) (e .transaction) (receive e m s out .session)
+refused-recalls e m s out n q true h =
+    subst (Recalls (e .remembered) (e .transaction)) (sym (refusal-leaves-session .closed e m s out (q ∙ ap refused (eqb-true n 5 h)))) (record { remembered-is = refl; number-is = refl })
+refused-recalls e m s out n q false h =
+    subst (Recalls (e .remembered) (e .transaction)) (sym (refusal-leaves-session .as-it-was e m s out n q (eqb-false n 5 h))) (record { remembered-is = refl; number-is = refl })
+
 pub not-heard : NotHeard
-unfolding refuse respond rank
+unfolding refuse respond
 not-heard =
     record {
       after-fault = λ e m s out h.
-          let r = old-recalls e m s out h in
+          let r = old-recalls e m h in
           receive-ends (λ o. (o .answer ≡ opened → ⊥) → Recalls (e .remembered) (e .transaction) (o .session)) e m s out
           (λ n k g. record { remembered-is = refl; number-is = refl }) (λ g. record { remembered-is = refl; number-is = refl }) (λ g. absurd (g refl))
-          (λ response then k g. replied-recalls e m s out (heard e m) r response then) (λ L task l k g. obeyed-recalls e m s out (heard e m) r L task);
-      after-refusal = λ e m s out n.
-          receive-ends (λ o. o .answer ≡ refused n → Recalls (e .remembered) (e .transaction) (o .session)) e m s out
-          (λ k h q. record { remembered-is = refl; number-is = refl }) (λ q. record { remembered-is = refl; number-is = refl }) (λ q. absurd (apart opened (refused n) refl q))
-          (λ response then k q. absurd (apart (reply 23) (refused n) refl q)) (λ L task l k q. absurd (obeyed-apart (heard e m) m s out L task (refused n) refl refl q));
+          (λ response then k g. replied-recalls m s out (heard e m) r response then) (λ L task l k g. obeyed-recalls m s out (heard e m) r L task);
+      after-refusal = λ e m s out n q. refused-recalls e m s out n q (eqb n 5) refl;
     }
 
 pub opening-forgets : OpeningForgets
-unfolding refuse respond rank
+unfolding refuse respond
 opening-forgets =
     record {
       of-begin = λ own peer start out e n q. subst (Recalls false 0) (begin-made own peer start out e n q .0) (record { remembered-is = refl; number-is = refl });
@@ -163,6 +158,7 @@ unfolding respond splice
 ten-told s d m out = record { answer-is = refl; type-is = refl; response-is = refl; closed = refl; store-kept = refl }
 
 pub repeated-is-ten : RepeatedIsTen
+unfolding firstFailed
 repeated-is-ten =
     record {
       second = λ e m s out h f g e' q o L m' s' out' is long head h' t.
@@ -170,27 +166,27 @@ repeated-is-ten =
           let n = and-both (e' .remembered) (eqb (transaction m') (e' .transaction)) (r .remembered-is) (eq-eqb (transaction m') (e' .transaction) (t ∙ sym (r .number-is))) in
           let d = remembering e' (transaction m') in
           subst (IsTen s')
-          (repeated-judged L e' m' s' out' h' d refl n ∙ open-long L e' m' s' out' head ∙ in-open L e' m' s' out' long o ∙ received e' m' s' out' (Known L) (sym is))
+          (transaction-judged L e' m' s' out' h' d refl true n ∙ open-long L e' m' s' out' head ∙ in-open L e' m' s' out' long o ∙ received e' m' s' out' (Known L) (sym is))
           (ten-told s' d m' out');
     }
 
 -- a command past all tests is answered 0
 obeyed-zero : (d : Session) (m s out : List ℕ) (L : Limits) (task : Task) (n : ℕ) → obey L task d m s out .answer ≡ reply n → getD (obey L task d m s out .output) 20 0 ≡ 10 → ⊥
-unfolding respond obey splice rank
+unfolding respond obey splice
 obeyed-zero d m s out L (Requests k) n q z = omega arith
 obeyed-zero d m s out L DeleteAll n q z = omega arith
 obeyed-zero d m s out L EndOfUpdate n q z = apart ended (reply n) refl q
 
 pub ten-is-repeated : TenIsRepeated
-unfolding refuse respond splice rank
+unfolding refuse respond splice
 ten-is-repeated =
     record {
       only = λ e m s out n.
-          receive-ends (λ o. o .answer ≡ reply n → getD (o .output) 19 0 ≡ 11 → getD (o .output) 20 0 ≡ 10 → Recalls true (transaction m) e) e m s out
+          receive-ends (λ o. o .answer ≡ reply n → getD (o .output) 19 0 ≡ 11 → getD (o .output) 20 0 ≡ 10 → (allPass (headerTests e m) ≡ true) × Recalls true (transaction m) e) e m s out
           (λ k h q y z. absurd (apart (refused k) (reply n) refl q)) (λ q y z. absurd (apart (refused 5) (reply n) refl q)) (λ q y z. absurd (apart opened (reply n) refl q))
           (λ response then k q y z.
-          let both = k .ten z in
+          let both = k .ten z .1 in
           let is = eqb (transaction m) (e .transaction) in
-          record { remembered-is = and-left (e .remembered) is both; number-is = sym (eqb-true (transaction m) (e .transaction) (and-right (e .remembered) is both)) })
+          (k .ten z .0, record { remembered-is = and-left (e .remembered) is both; number-is = sym (eqb-true (transaction m) (e .transaction) (and-right (e .remembered) is both)) }))
           (λ L task l k q y z. absurd (obeyed-zero (heard e m) m s out L task n q z));
     }

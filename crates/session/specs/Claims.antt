@@ -105,7 +105,7 @@ pub record RepeatedIsTen : Type 0 where
       → (L : Limits) (m' s' out' : List ℕ) → editionOf (length s') ≡ Known L → 1032 ≤ length out' → 20 ≤ length m' → allPass (headerTests e' m') ≡ true
       → transaction m' ≡ transaction m → IsTen s' (receive e' m' s' out')
 
--- and no other is: RESPONSE 10 says that a number was remembered, and that the message has it
+-- and no other is: RESPONSE 10 says that the message is past the header tests, that a number was remembered, and that the message has it
 pub record TenIsRepeated : Type 0 where
   pub only : (e : Session) (m s out : List ℕ) (n : ℕ) → receive e m s out .answer ≡ reply n → getD (receive e m s out .output) 19 0 ≡ 11
-      → getD (receive e m s out .output) 20 0 ≡ 10 → Recalls true (transaction m) e
+      → getD (receive e m s out .output) 20 0 ≡ 10 → (allPass (headerTests e m) ≡ true) × Recalls true (transaction m) e

@@ -78,8 +78,8 @@ abbrev pub repeats : Session → ℕ → Bool
 repeats e n = e .remembered && eqb n (e .transaction)
 
 -- that between the sequence number and the type
-abbrev pub numberTests : Session → List ℕ → List Test
-numberTests e m = test (not (repeats e (transaction m))) 10 Closed ∷ []
+abbrev pub transactionTests : Session → List ℕ → List Test
+transactionTests e m = test (not (repeats e (transaction m))) 10 Closed ∷ []
 
 -- delete all and end of update do not ask whether the store is sound
 abbrev pub asksStore : Task → Bool
@@ -87,7 +87,7 @@ asksStore (Requests k) = true
 asksStore DeleteAll = false
 asksStore EndOfUpdate = false
 
--- those after it
+-- those after the type
 abbrev pub bodyTests : Task → Limits → List ℕ → List ℕ → List Test
 bodyTests task L m s =
     test (bodyOk task m) 11 Closed
@@ -111,7 +111,7 @@ typeTest SessionInit L m s = failed 1 Open
 typeTest Other L m s = failed 1 Open
 
 unfoldable pub verdict : Limits → Session → List ℕ → List ℕ → Verdict
-verdict L e m s = firstFailed (headerTests e m) (firstFailed (numberTests e m) (typeTest (kind m) L m s))
+verdict L e m s = firstFailed (headerTests e m) (firstFailed (transactionTests e m) (typeTest (kind m) L m s))
 
 -- every test of a list holds
 unfoldable pub allPass : List Test → Bool

@@ -37,6 +37,10 @@ const UPDATE_KEY_VALIDITIES: u8 = 3;
 
 const UPDATE_KEY_ENTITIES: u8 = 4;
 
+pub const END_OF_UPDATE: u8 = 10;
+
+pub const RESERVED: u8 = 200;
+
 // The numbers of the two session inits, and of the first command.
 const OWN_START: u16 = 9;
 

@@ -3,9 +3,11 @@ use crate::centre::ADD_KEYS;
 use crate::centre::CENTRE_START;
 use crate::centre::DELETE_ALL_KEYS;
 use crate::centre::DELETE_KEYS;
+use crate::centre::END_OF_UPDATE;
 use crate::centre::FIRST;
 use crate::centre::ISSUER;
 use crate::centre::LENGTH;
+use crate::centre::RESERVED;
 use crate::centre::add_keys;
 use crate::centre::deliver;
 use crate::centre::fresh;
@@ -21,6 +23,7 @@ use crate::wire::header;
 use crate::wire::identifier;
 use crate::wire::k_struct;
 use crate::wire::word;
+use message::HEADER;
 use message::MESSAGE_MOST;
 use message::TRANSACTION_AT;
 use message::written::HEAD;
@@ -32,12 +35,7 @@ const SECOND: u16 = FIRST + 1;
 
 const THIRD: u16 = FIRST + 2;
 
-// Message types: end of update, and one that is reserved.
-const END_OF_UPDATE: u8 = 10;
-
-const RESERVED: u8 = 200;
-
-// What the session remembers that is handed in.
+// What the session that is handed in remembers, and its own next number.
 const REMEMBERED: u32 = 0x89abcdef;
 
 const OWN_NEXT: u16 = 10;
@@ -48,7 +46,7 @@ const OWN_NEXT: u16 = 10;
 fn send(
     name: &[u8],
     e: Session,
-    number: u32,
+    transaction: u32,
     m: &mut [u8; MESSAGE_MOST],
     n: usize,
     s: &mut [u8],
@@ -57,7 +55,7 @@ fn send(
         return e;
     }
     word(m, 0, n as u32);
-    word(m, TRANSACTION_AT, number);
+    word(m, TRANSACTION_AT, transaction);
     deliver(name, e, m, n, s)
 }
 
@@ -66,50 +64,50 @@ fn delete(
     name: &[u8],
     e: Session,
     sequence: u16,
-    number: u32,
+    transaction: u32,
     serial: u32,
     s: &mut [u8],
 ) -> Session {
     let mut m = [0u8; MESSAGE_MOST];
     let i = command(&mut m, sequence, DELETE_KEYS, 1);
     let n = identifier(&mut m, i, ISSUER, serial);
-    send(name, e, number, &mut m, n, s)
+    send(name, e, transaction, &mut m, n, s)
 }
 
 // Adds the first key.
-fn add(name: &[u8], e: Session, sequence: u16, number: u32, s: &mut [u8]) -> Session {
+fn add(name: &[u8], e: Session, sequence: u16, transaction: u32, s: &mut [u8]) -> Session {
     let mut m = [0u8; MESSAGE_MOST];
     let i = command(&mut m, sequence, ADD_KEYS, 1);
     let n = k_struct(&mut m, i, key(1, 1));
-    send(name, e, number, &mut m, n, s)
+    send(name, e, transaction, &mut m, n, s)
 }
 
 // A message of a type, with so many bytes 00 for a body.
-fn zeros(
+fn plain(
     name: &[u8],
     e: Session,
     sequence: u16,
-    number: u32,
+    transaction: u32,
     kind: u8,
     body: usize,
     s: &mut [u8],
 ) -> Session {
     let mut m = [0u8; MESSAGE_MOST];
     header(&mut m, LENGTH, OWN, sequence, kind);
-    if MESSAGE_MOST - 20 < body {
+    if MESSAGE_MOST - HEADER < body {
         return e;
     }
-    send(name, e, number, &mut m, 20 + body, s)
+    send(name, e, transaction, &mut m, HEADER + body, s)
 }
 
-fn delete_all(name: &[u8], e: Session, sequence: u16, number: u32, s: &mut [u8]) -> Session {
-    zeros(name, e, sequence, number, DELETE_ALL_KEYS, 0, s)
+fn delete_all(name: &[u8], e: Session, sequence: u16, transaction: u32, s: &mut [u8]) -> Session {
+    plain(name, e, sequence, transaction, DELETE_ALL_KEYS, 0, s)
 }
 
-fn init(name: &[u8], e: Session, number: u32, s: &mut [u8]) -> Session {
+fn init(name: &[u8], e: Session, transaction: u32, s: &mut [u8]) -> Session {
     let mut m = [0u8; MESSAGE_MOST];
     put_init(&mut m, CENTRE, OWN, FIRST);
-    send(name, e, number, &mut m, HEAD, s)
+    send(name, e, transaction, &mut m, HEAD, s)
 }
 
 // ---- sessions
@@ -213,7 +211,7 @@ fn order_of_tests(s: &mut [u8]) {
         s,
     ));
     session(delete_all(b"sequence number wrong:", e, SECOND, 7, s));
-    session(zeros(
+    session(plain(
         b"transaction number and type wrong:",
         e,
         FIRST,
@@ -235,25 +233,37 @@ fn waiting(s: &mut [u8]) {
 
 // ---- after end of update, and after each RESPONSE
 
-fn ends(name: &[u8], number: u32, s: &mut [u8]) {
+fn ends(name: &[u8], transaction: u32, s: &mut [u8]) {
     let e = delete_all(b"delete all:", first(s), FIRST, 7, s);
-    session(zeros(name, e, SECOND, number, END_OF_UPDATE, 0, s));
+    session(plain(name, e, SECOND, transaction, END_OF_UPDATE, 0, s));
 }
 
-fn after_type(name: &[u8], number: u32, s: &mut [u8]) {
-    let e = zeros(b"type 200:", first(s), FIRST, 7, RESERVED, 0, s);
+fn ends_at_once(s: &mut [u8]) {
+    session(plain(
+        b"end of update first, number 0:",
+        first(s),
+        FIRST,
+        0,
+        END_OF_UPDATE,
+        0,
+        s,
+    ));
+}
+
+fn after_type(name: &[u8], transaction: u32, s: &mut [u8]) {
+    let e = plain(b"type 200:", first(s), FIRST, 7, RESERVED, 0, s);
     session(e);
-    session(delete_all(name, e, SECOND, number, s));
+    session(delete_all(name, e, SECOND, transaction, s));
 }
 
 fn after_format(s: &mut [u8]) {
-    session(zeros(b"format error:", first(s), FIRST, 7, DELETE_ALL_KEYS, 1, s));
+    session(plain(b"format error:", first(s), FIRST, 7, DELETE_ALL_KEYS, 1, s));
 }
 
-fn after_unsound(name: &[u8], number: u32, s: &mut [u8]) {
+fn after_unsound(name: &[u8], transaction: u32, s: &mut [u8]) {
     let e = delete(b"unsound store, delete:", first(s), FIRST, 7, 1, s);
     session(e);
-    session(delete_all(name, e, SECOND, number, s));
+    session(delete_all(name, e, SECOND, transaction, s));
     store_header(s);
 }
 
@@ -284,6 +294,7 @@ fn others(s: &mut [u8]) {
     waiting(s);
     ends(b"end of update, the same number:", 7, s);
     ends(b"end of update, another number:", 8, s);
+    ends_at_once(s);
 }
 
 fn responses(s: &mut [u8]) {

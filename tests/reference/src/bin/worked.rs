@@ -352,6 +352,10 @@ fn ends_of_update(store: &mut [u8]) {
         centre.send(store, name, transaction, empty(kind::END_OF_UPDATE));
         centre.session();
     }
+    let mut centre = Centre::opened(store);
+    let first = empty(kind::END_OF_UPDATE);
+    centre.send(store, "end of update first, number 0", 0, first);
+    centre.session();
 }
 
 /// RESPONSE 1, and RESPONSE 11, which closes.

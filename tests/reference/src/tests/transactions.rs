@@ -324,6 +324,15 @@ fn end_of_update() {
         let mut bench = bench(remembering(number, open_session()));
         assert_repeated(&mut bench, &numbered(number, kind::END_OF_UPDATE, 300, &[]));
     }
+    // The first message after the session init that opened, with the number that this had.
+    for number in [0, A] {
+        let mut bench = bench(open_session());
+        (bench.session, _) = begin(OWN, CENTRE, 699, &mut [0; 1032]).unwrap();
+        assert_eq!(bench.receive(&session_init(number, 299)), Answer::Opened);
+        let end = numbered(number, kind::END_OF_UPDATE, 300, &[]);
+        assert_taken(&mut bench, &end, None);
+        assert_eq!(bench.out, [0xee; 1032]);
+    }
 }
 
 /// In an open session a session init is a message like another.
