@@ -21,7 +21,7 @@ use Rattle.session.specs.Sessions.{State, Closed, Waiting, Open, up, closing, o
 use Rattle.session.specs.Rules.{Answered, reply, opened, ended, refused, Outcome, receive, receivedAs, Does}
 use Rattle.session.proofs.SessionLaws.{begin-made}
 use Rattle.session.proofs.OutcomeLaws.{does-as}
-use Rattle.session.proofs.StateLaws.{transaction-fits, session-ends}
+use Rattle.session.proofs.StateLaws.{session-ends}
 use Rattle.session.proofs.Theorems.{reply-length, refusal-leaves-session}
 use Rattle.kmac.specs.Code.{code, nonzero}
 use Rattle.kmac.specs.SessionBuffer.{flag, sessionBytes, sessionOf, begunBuffer, replyLength, writesSession, sessionAfter, Short, Tells}
@@ -150,7 +150,7 @@ module _ (e : Session) (f : Fitting e) where
 
 receive-fits : (e : Session) → Fitting e → (m s out : List ℕ) → Bytes m → Fitting (receive e m s out .session)
 receive-fits e f m s out h =
-    session-ends Fitting e m s out f (remembering-fits e f _ (transaction-fits m h)) closing-fits (opening-fits e f) (λ d then g. replied-fits d g then)
+    session-ends Fitting e m s out f (remembering-fits e f _ (get32-fits m h _)) closing-fits (opening-fits e f) (λ d then g. replied-fits d g then)
 
 -- the buffer after an outcome is read as its session: where it is written, and where a refusal leaves both
 sessionOf-sessionAfter : (o : Outcome) (b : List ℕ) → Fitting (o .session) → (a : Answered) → o .answer ≡ a → ((n : ℕ) → o .answer ≡ refused n → (n ≡ 5 → ⊥) → o .session ≡ sessionOf b)

@@ -20,6 +20,6 @@ abbrev pub endAfter : Finding → ℕ → ℕ
 endAfter (found place end) old = end
 endAfter (unfound n) old = old
 
--- a direction of 0 is 0, and any other byte is 1
+-- a direction, or the flag of a session: 0 is 0, and any other byte is 1
 abbrev pub nonzero : ℕ → Bool
 nonzero b = not (eqb b 0)

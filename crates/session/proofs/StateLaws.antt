@@ -2,9 +2,7 @@
 -- Assumes nothing.
 use mathlib.Core.Bool.{Bool, true, false, cond}
 use mathlib.Core.List.{List}
-use Prim.Native.Nat.{ℕ, _<_}
-use Rattle.octets.specs.Bytes.{Bytes}
-use Rattle.octets.proofs.WordLaws.{get32-fits}
+use Prim.Native.Nat.{ℕ}
 use Rattle.store.specs.declared.Limits.{Limits}
 use Rattle.message.specs.declared.Task.{Task}
 use Rattle.message.specs.declared.Task.the-variants.{Requests, DeleteAll, EndOfUpdate}
@@ -13,9 +11,6 @@ use Rattle.session.specs.declared.Session.{Session}
 use Rattle.session.specs.Sessions.{State, Open, closing, opening, remembering, replied}
 use Rattle.session.specs.Rules.{refuse, respond, headerTests, allPass, heard, obey, receive}
 use Rattle.session.proofs.RuleLaws.{receive-ends}
-
-pub transaction-fits : (m : List ℕ) → Bytes m → transaction m < 4294967296
-transaction-fits m h = get32-fits m h _
 
 -- what holds of each holds of it
 module _ (P : Session → Type 0) (e : Session) (m s out : List ℕ)

@@ -58,7 +58,7 @@ pub record Recalls (remembered : Bool) (number : ℕ) (e : Session) : Type 0 whe
   pub remembered-is : e .remembered ≡ remembered
   pub number-is : e .transaction ≡ number
 
--- the same session beside another number
+-- the same session, with n in the field of the number
 abbrev pub beside : Session → ℕ → Session
 beside e n =
     record { state = e .state; own = e .own; peer = e .peer; next = e .next; expected = e .expected; remembered = e .remembered; transaction = n }
@@ -98,7 +98,7 @@ pub record IsTen (s : List ℕ) (o : Outcome) : Type 0 where
   pub closed : o .session .state ≡ codeOf Closed
   pub store-kept : o .store ≡ s
 
--- so of two messages past the header tests, one after the other and with one number, the second is answered 10, whatever the type, the body and the RESPONSE of either
+-- so of two messages past the header tests, one after the other and with one number, where the first leaves the session open, the second is answered 10, whatever the type and the body of either and the RESPONSE to the first
 pub record RepeatedIsTen : Type 0 where
   pub second : (e : Session) (m s out : List ℕ) → allPass (headerTests e m) ≡ true → ((n : ℕ) → receive e m s out .answer ≡ refused n → ⊥)
       → (receive e m s out .answer ≡ opened → ⊥) → (e' : Session) → e' ≡ receive e m s out .session → e' .state ≡ codeOf Open

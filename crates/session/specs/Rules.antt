@@ -77,7 +77,7 @@ headerTests e m =
 abbrev pub repeats : Session → ℕ → Bool
 repeats e n = e .remembered && eqb n (e .transaction)
 
--- that between the sequence number and the type
+-- the test between the sequence number and the type
 abbrev pub transactionTests : Session → List ℕ → List Test
 transactionTests e m = test (not (repeats e (transaction m))) 10 Closed ∷ []
 

@@ -231,7 +231,7 @@ fn waiting(s: &mut [u8]) {
     session(delete_all(b"no session init:", e, FIRST, 7, s));
 }
 
-// ---- after end of update, and after each RESPONSE
+// ---- end of update, and after RESPONSE 1, 11 and 6
 
 fn ends(name: &[u8], transaction: u32, s: &mut [u8]) {
     let e = delete_all(b"delete all:", first(s), FIRST, 7, s);

@@ -94,7 +94,7 @@ impl Chain {
         let shown = [
             (exchange.transaction() == [0; 4], Mark::RepeatedZero),
             (kind == kind::END_OF_UPDATE, Mark::RepeatedByEnd),
-            (before[REMEMBERED_AT] > 1, Mark::RepeatedByOddFlag),
+            (before[REMEMBERED_AT] > 1, Mark::RepeatedByOtherFlag),
             (
                 matches!(before[4..6], [0, 0] | [255, 255]),
                 Mark::RepeatedAtWrap,
@@ -235,7 +235,7 @@ mod tests {
         run.world.session[REMEMBERED_AT] = 9;
         run.world.session[2..6].fill(255);
         let marks = [
-            Mark::RepeatedByOddFlag,
+            Mark::RepeatedByOtherFlag,
             Mark::RepeatedAtWrap,
             Mark::RepeatedAtOwnWrap,
         ];

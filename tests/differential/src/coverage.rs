@@ -61,7 +61,7 @@ pub enum Mark {
     /// RESPONSE 10 in a reply with the own number 65,535.
     RepeatedAtOwnWrap,
     /// RESPONSE 10 where the byte that says that a number is remembered is neither 0 nor 1.
-    RepeatedByOddFlag,
+    RepeatedByOtherFlag,
     /// A first message with the number 0, where none is remembered and the number is 0.
     TakenZeroFirst,
     /// A message with the number that stands in a session that remembers none; it is not 0.
@@ -101,7 +101,7 @@ impl fmt::Display for Mark {
             Mark::RepeatedByEnd => write!(f, "number repeated by end of update"),
             Mark::RepeatedAtWrap => write!(f, "number repeated beside the wrap"),
             Mark::RepeatedAtOwnWrap => write!(f, "number repeated at the own wrap"),
-            Mark::RepeatedByOddFlag => write!(f, "number repeated by a flag over 1"),
+            Mark::RepeatedByOtherFlag => write!(f, "number repeated by a flag over 1"),
             Mark::TakenZeroFirst => write!(f, "number 0 taken first"),
             Mark::TakenBesideNoFlag => write!(f, "number taken where none is remembered"),
             Mark::TakenAfterForgotten => write!(f, "number taken that was forgotten"),
@@ -303,7 +303,7 @@ fn repeated_numbers() -> Vec<Mark> {
         Mark::RepeatedByEnd,
         Mark::RepeatedAtWrap,
         Mark::RepeatedAtOwnWrap,
-        Mark::RepeatedByOddFlag,
+        Mark::RepeatedByOtherFlag,
         Mark::TakenZeroFirst,
         Mark::TakenBesideNoFlag,
         Mark::TakenAfterForgotten,

@@ -146,8 +146,8 @@ impl Generator {
     }
 
     /// The transaction number of a command. One that is repeated closes the session, so few are;
-    /// but where none is remembered the last one is often taken, and the number that stands in the
-    /// session often where its flag is another than a library writes beside it.
+    /// but where none is remembered the last one is often taken. The number that stands in the
+    /// session is taken one time in two where the flag is over 1, or is 0 beside a number but 0.
     fn transaction(&mut self, session: &Session, flag: u8) -> u32 {
         let held = session.transaction;
         let again = match (flag, held) {

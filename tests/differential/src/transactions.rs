@@ -188,8 +188,8 @@ fn every_number(both: &mut Both, edition: Edition, seed: u64) -> Step {
     Ok(())
 }
 
-/// Each type with each body in each state, over a sound store and an unsound one: the number
-/// repeated, unlike in one bit, and not remembered.
+/// Each of twelve types with each body in each state, over a sound store and an unsound one: the
+/// number repeated, unlike in one bit, and not remembered.
 fn every_message(both: &mut Both, edition: Edition, seed: u64) -> Step {
     let mut scene = Scene::new(edition, seed ^ 62);
     let number = scene.random.u32();
@@ -268,8 +268,8 @@ fn openings(both: &mut Both, edition: Edition, seed: u64) -> Step {
     Ok(())
 }
 
-/// Each message that leaves the session open before each message: with one number, with two, and
-/// with the number 0.
+/// Each command and a session init, where it leaves the session open, before each message: with
+/// one number, with two, and with the number 0.
 fn two_messages(both: &mut Both, edition: Edition, seed: u64) -> Step {
     let mut scene = Scene::new(edition, seed ^ 65);
     let any = scene.random.u32();

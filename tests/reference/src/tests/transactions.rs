@@ -76,7 +76,7 @@ fn assert_taken(bench: &mut Bench, message: &[u8], response: Option<u8>) {
     assert_eq!(bench.session, expected);
 }
 
-/// Asserts RESPONSE 10. The session remembers the number already, so that closing is all that changes.
+/// Asserts RESPONSE 10: the session is closed, its own number one higher, and the number as remembered before.
 fn assert_repeated(bench: &mut Bench, message: &[u8]) {
     let (before, store) = (bench.session, bench.store.clone());
     bench.assert_reply(message, &reply(message, before.next, 10, &[]));
