@@ -15,7 +15,8 @@ use Rattle.octets.proofs.WordLaws.{get32-fits, numbers-fit}
 use Rattle.store.specs.WellFormed.{Readable, AllReadable}
 use Rattle.message.specs.declared.Command.{Command}
 use Rattle.message.specs.declared.Command.the-variants.{Adds, Deletes, Validities, Entities}
-use Rattle.message.specs.Body.{addCount, periodAt, entitiesCount, kmacAt, sizeAt, fieldsOk, fieldsFrom, requestAt, requestsFrom, requestNumber, requestsAt, most, listOk, requests}
+use Rattle.message.specs.Body.{addCount, periodAt, entitiesCount, kmacAt, sizeAt, fieldsOk, fieldsFrom, requestAt, requestsFrom, requestNumber, requestsAt, most, listOk, requests, bodyOk}
+use Rattle.message.specs.Claims.{RequestsReadable}
 
 module _ (k : Command) (m : List ℕ) where
   -- the first request ends within the message, and the others stand behind it
@@ -59,6 +60,6 @@ unfolding AllReadable requestsFrom
 readable-from k m b zero at h = tt
 readable-from k m b (suc n) at h = (readable-at k m b at (fields-fit k m n at h), readable-from k m b n (at + sizeAt k m at) (fields-rest k m n at h))
 
-pub requests-readable : (k : Command) (m : List ℕ) → Bytes m → listOk k m ≡ true → AllReadable (requests k m)
-unfolding requests
-requests-readable k m b h = readable-from k m b (requestNumber m) requestsAt (listOk-fields k m h)
+pub requests-readable : RequestsReadable
+unfolding requests bodyOk
+requests-readable = record { readable = λ k m b h. readable-from k m b (requestNumber m) requestsAt (listOk-fields k m h) }

@@ -1,3 +1,4 @@
 pub mod Header
 pub mod Body
 pub mod Written
+pub mod Claims

@@ -11,19 +11,14 @@ use Rattle.session.specs.Sessions.{Beginning, begunAs}
 use Rattle.session.specs.Rules.{Answered, receivedAs}
 use Rattle.session.proofs.AnswerLaws as sessions
 use Rattle.runs.specs.Calls.{Call, World, Seen, begun, received, searched, replyOf, seen, sessionOf, next, allSeen, final}
-use Rattle.runs.specs.Alike.{AlikeCalls, no-calls, alike-begin, alike-message, alike-search}
+use Rattle.runs.specs.Alike.{AlikeCalls, no-calls, alike-begin, alike-message, alike-search, isSound}
 use Rattle.runs.specs.Tally.{replyIn}
 use Rattle.runs.specs.Secrecy.{Alike}
-use Rattle.runs.specs.CodeRuns.{Handed, by-begin, by-message, by-search, CodeRun, code-ends, code-begin, code-message, code-search, SameHanded, same-none, same-begin, same-message, same-search, replyBy, SecrecyOfCalls}
-use Rattle.runs.proofs.Theorem.{secrecy}
+use Rattle.runs.specs.CodeRuns.{Handed, by-begin, by-message, by-search, CodeRun, code-ends, code-begin, code-message, code-search, SameHanded, same-none, same-begin, same-message, same-search, seenBy, replyBy, SecrecyOfCalls, NeverSixOfCalls}
+use Rattle.runs.specs.Sound.{noneBlames}
+use Rattle.runs.proofs.Theorem.{secrecy, runs-keep-sound, never-from-sound}
 
 -- ---- one run
-
--- what is seen of what a call hands back
-abbrev seenBy : Handed → Seen
-seenBy (by-begin r out) = begun (begunAs r) out
-seenBy (by-message r out) = received (receivedAs r) (replyOf (receivedAs r) out) out
-seenBy (by-search r part) = searched (foundAs r) (length part)
 
 record Follows (cs : List Call) (w : World) (hs : List Handed) (v : World) : Type 0 where
   seen-is : map seenBy hs ≡ allSeen cs w
@@ -94,4 +89,12 @@ secrecy-of-calls =
             told = rw (← r, f .final-is, f' .final-is) (a .told);
             no-trace = rw (← r, f .final-is, f' .final-is) (a .no-trace);
           };
+    }
+
+pub never-six-of-calls : NeverSixOfCalls
+never-six-of-calls =
+    record {
+      runs = λ cs w v hs b h c k.
+          let f = follows k in
+          (ap noneBlames (f .seen-is) ∙ never-from-sound cs w b h c, ap (λ (x : World). isSound (x .store)) (f .final-is) ∙ runs-keep-sound .kept cs w b h c);
     }

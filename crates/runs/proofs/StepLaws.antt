@@ -26,7 +26,7 @@ use Rattle.message.specs.Written.{replyBytes}
 use Rattle.session.specs.declared.Session.{Session}
 use Rattle.session.specs.Sessions.{State, Closed, Waiting, Open, stateOf, closing, opening}
 use Rattle.session.specs.Rules.{reply, opened, Outcome, refuse, respond, headerTests, typeTest, firstFailed, Verdict, passed, failed, verdict, allPass, heard, transactionTests, obey, judged, opens, whileWaiting, inState, receiveIn, receive}
-use Rattle.session.proofs.RuleLaws.{Passed, Says, verdict-says}
+use Rattle.session.proofs.RuleLaws.{Passed, verdict-passed, verdict-zero}
 use Rattle.runs.specs.Calls.{replyOf}
 use Rattle.runs.specs.Alike.{AlikeMessages}
 use Rattle.runs.specs.Tally.{Tag, obeyed, tallied}
@@ -98,8 +98,8 @@ module _ (L : Limits) (m m' : List ℕ) (ts : List Tag) (a : AlikeMessages m m')
       respond-same L m m' ts 0 (w .results) (w' .results) Open e (encode L (w .left)) (encode L (w' .left)) out (results-alike L (e .own) r (v .alike)) (x .transaction-is)
       (subst (λ (j : Kind). Twins L (obeyed j m m' W ts) (encode L (w .left)) (encode L (w' .left))) (sym q)
       (encode-twins L (twins-bounded L v) (total-edition L v)
-      (work-wellFormed L (e .own) (requests k m) (entries L s) (requests-readable k m (a .bytes) h) (wellFormed L v))
-      (work-wellFormed L (e .own) (requests k m') (entries L s') (requests-readable k m' (a .bytes') h') (wellFormed' L v))
+      (work-wellFormed L (e .own) (requests k m) (entries L s) (requests-readable .readable k m (a .bytes) h) (wellFormed L v))
+      (work-wellFormed L (e .own) (requests k m') (entries L s') (requests-readable .readable k m' (a .bytes') h') (wellFormed' L v))
       (work-alike L (e .own) r (v .alike))))
 
   obey-same : (e : Session) (task : Task) → Passed m task → SameStep L m m' ts (obey L task e m s out) (obey L task e m' s' out)
@@ -130,19 +130,18 @@ module _ (L : Limits) (m m' : List ℕ) (ts : List Tag) (a : AlikeMessages m m')
   heard-same e = rw (x .length-ok, x .version-is, x .receiver-is, x .sender-is, x .sequence-is, x .transaction-is)
 
   -- the verdict on a session e, told by the session d
-  judged-same : (e d : Session) (w : Verdict) → Says e m w → SameStep L m m' ts (judged w L d m s out) (judged w L d m' s' out)
-  unfolding Says
-  judged-same e d (passed task) h = obey-same d task h
+  judged-same : (e d : Session) (w : Verdict) → verdict L e m s ≡ w → SameStep L m m' ts (judged w L d m s out) (judged w L d m' s' out)
+  judged-same e d (passed task) h = obey-same d task (verdict-passed L e m s task h)
   judged-same e d (failed response then) h =
       respond-same L m m' ts response [] [] then d s s' out refl (x .transaction-is)
-      (subst (λ (b : Bool). Twins L (cond b (obeyed (kind m) m m' (replyBytes (d .own) (d .peer) (transaction m) (d .next) response []) ts) ts) s s') (sym (h .not-zero)) v)
+      (subst (λ (b : Bool). Twins L (cond b (obeyed (kind m) m m' (replyBytes (d .own) (d .peer) (transaction m) (d .next) response []) ts) ts) s s') (sym (verdict-zero L e m s response then h)) v)
 
   open-same : (e : Session) → SameStep L m m' ts (judged (verdict L e m s) L (heard e m) m s out) (judged (verdict L e m' s') L (heard e m') m' s' out)
   open-same e =
       let w = verdict L e m s in
       subst (λ (w' : Verdict). SameStep L m m' ts (judged w L (heard e m) m s out) (judged w' L (heard e m') m' s' out)) (verdict-same e)
       (subst (λ (d : Session). SameStep L m m' ts (judged w L (heard e m) m s out) (judged w L d m' s' out)) (heard-same e)
-      (judged-same e (heard e m) w (verdict-says L e m s)))
+      (judged-same e (heard e m) w refl))
 
   -- ---- the states
 

@@ -1,41 +1,56 @@
 -- Demand 3, proved: two lists of alike calls, call by call.
 -- Assumes nothing.
 use mathlib.Core.Path.{_≡_, refl, ap, _∙_, subst}
-use mathlib.Core.Bool.{true, false}
+use mathlib.Core.Bool.{Bool, true, false, not, _&&_}
 use mathlib.Core.List.{List, _∷_, map}
 use Prim.Native.Nat.{ℕ}
 use lib.ListN.{length}
+use Rattle.octets.specs.Bytes.{Bytes}
 use Rattle.octets.proofs.BoolLaws.{clash}
 use Rattle.store.specs.declared.Limits.{Limits}
 use Rattle.store.specs.declared.Edition.{Edition}
 use Rattle.store.specs.declared.Edition.the-variants.{Known, Unknown}
-use Rattle.store.specs.Layout.{editionOf}
+use Rattle.store.specs.Layout.{total, edition1, edition2, editionIn, editionOf}
 use Rattle.store.specs.Store.{sound}
 use Rattle.store.specs.Search.{Finding, find, key}
+use Rattle.store.proofs.Theorems.{accepted-says-edition}
 use Rattle.session.specs.declared.Session.{Session}
 use Rattle.session.specs.Sessions.{Beginning, begin, beginOutput}
 use Rattle.session.specs.Rules.{Answered, Outcome, receive}
 use Rattle.runs.specs.Calls.{Call, starts, brings, World, Seen, begun, received, searched, replyOf, seen, sessionOf, next, allSeen, final}
-use Rattle.runs.specs.Alike.{AlikeCalls, AlikeStores, no-calls, alike-begin, alike-message, alike-search, soundIn, heldIn}
+use Rattle.runs.specs.Alike.{AlikeCalls, AlikeStores, no-calls, alike-begin, alike-message, alike-search, soundIn, isSound, heldIn}
 use Rattle.runs.specs.Tally.{Tag, tags, tallyFrom, messageIn, replyIn}
-use Rattle.runs.specs.Secrecy.{Secrecy, RunsKeepSound}
+use Rattle.runs.specs.Secrecy.{Secrecy}
+use Rattle.runs.specs.Sound.{noneBlames, RunsKeepSound, NeverBlamed, NeverSix}
 use Rattle.runs.proofs.TwinLaws.{Twins, alike-twins, twins-alike, twins-told, twins-equal, find-same, key-size}
 use Rattle.runs.proofs.StepLaws.{SameStep, receive-same}
+use Rattle.runs.proofs.BlameLaws.{begin-blameless, message-blameless, search-blameless}
 
 record SameRun (L : Limits) (cs cs' : List Call) (ts : List Tag) (w w' : World) : Type 0 where
   seen-is : allSeen cs w ≡ allSeen cs' w'
   session-is : final cs w .session ≡ final cs' w' .session
+  -- of the first run alone
+  blameless : noneBlames (allSeen cs w) ≡ true
   twins : Twins L (tallyFrom ts (map messageIn cs) (map messageIn cs') (map replyIn (allSeen cs w))) (final cs w .store) (final cs' w' .store)
+
+-- a call that does not blame the store, in front of others that do not
+one-more : (a b : Bool) → a ≡ false → b ≡ true → not a && b ≡ true
+one-more a b p q = rw (p, q)
 
 run-same : {cs cs' : List Call} → AlikeCalls cs cs' → (L : Limits) (ts : List Tag) (w w' : World) → w .session ≡ w' .session → Twins L ts (w .store) (w' .store)
     → SameRun L cs cs' ts w w'
-unfolding allSeen final tallyFrom seen next
-run-same no-calls L ts w w' q v = record { seen-is = refl; session-is = q; twins = v }
+unfolding allSeen final tallyFrom seen next noneBlames
+run-same no-calls L ts w w' q v = record { seen-is = refl; session-is = q; blameless = refl; twins = v }
 run-same (alike-begin {cs = cs} {cs' = cs'} own peer start out r) L ts w w' q v =
     let c : Call = starts own peer start out in
     let b : Beginning = begin own peer start out in
     let k : SameRun L cs cs' ts (next c w) (next c w') = run-same r L ts (next c w) (next c w') (ap (sessionOf b) q) v in
-    record { seen-is = ap (λ (l : List Seen). begun b (beginOutput b own peer start out) ∷ l) (k .seen-is); session-is = k .session-is; twins = k .twins }
+    record {
+      seen-is = ap (λ (l : List Seen). begun b (beginOutput b own peer start out) ∷ l) (k .seen-is);
+      session-is = k .session-is;
+      blameless = one-more _ _ (begin-blameless own peer start out (beginOutput b own peer start out)) (k .blameless);
+      twins = k .twins;
+    }
 run-same (alike-message {cs = cs} {cs' = cs'} m m' out x r) L ts w w' q v =
     let o : Outcome = receive (w .session) m (w .store) out in
     let o' : Outcome = receive (w' .session) m' (w' .store) out in
@@ -48,6 +63,7 @@ run-same (alike-message {cs = cs} {cs' = cs'} m m' out x r) L ts w w' q v =
           ∙ ap (λ (u : List ℕ). received (o' .answer) (replyOf (o' .answer) u) u ∷ allSeen cs (next (brings m out) w)) (t .output-is)
           ∙ ap (λ (l : List Seen). received (o' .answer) (replyOf (o' .answer) (o' .output)) (o' .output) ∷ l) (k .seen-is);
       session-is = k .session-is;
+      blameless = one-more _ _ (message-blameless L (w .store) (v .edition) (v .sound-is) (w .session) m out) (k .blameless);
       twins = k .twins;
     }
 run-same (alike-search {cs = cs} {cs' = cs'} peer t r) L ts w w' q v =
@@ -60,6 +76,7 @@ run-same (alike-search {cs = cs} {cs' = cs'} peer t r) L ts w w' q v =
           ∙ ap (λ (n : ℕ). searched (find s' peer t) n ∷ allSeen cs w) (key-size L v peer t)
           ∙ ap (λ (l : List Seen). searched (find s' peer t) (length (key s' peer t)) ∷ l) (k .seen-is);
       session-is = k .session-is;
+      blameless = one-more _ _ (search-blameless L s (v .edition) (v .sound-is) peer t (length (key s peer t))) (k .blameless);
       twins = k .twins;
     }
 
@@ -85,10 +102,23 @@ secrecy =
           };
     }
 
+-- a run beside itself
+itself : (s : List ℕ) → Bytes s → isSound s ≡ true → AlikeStores s s
+itself s b h = record { bytes = b; bytes' = b; sound = h; sound' = h; differ = record { same-length = refl; same-byte = λ i p. refl } }
+
 pub runs-keep-sound : RunsKeepSound
-runs-keep-sound =
-    record {
-      kept = λ cs w b h c.
-          let itself : AlikeStores (w .store) (w .store) = record { bytes = b; bytes' = b; sound = h; sound' = h; differ = record { same-length = refl; same-byte = λ i p. refl } } in
-          secrecy .runs cs cs w w refl itself c .alike-stores .sound;
-    }
+runs-keep-sound = record { kept = λ cs w b h c. secrecy .runs cs cs w w refl (itself (w .store) b h) c .alike-stores .sound }
+
+pub never-from-sound : (cs : List Call) (w : World) → Bytes (w .store) → isSound (w .store) ≡ true → AlikeCalls cs cs → noneBlames (allSeen cs w) ≡ true
+never-from-sound cs w b h c =
+    let p = sound-edition (editionOf (length (w .store))) (w .store) h in
+    run-same c (p .0) _ w w refl (alike-twins (p .0) (w .store) (w .store) (itself (w .store) b h) (p .1) (p .2)) .blameless
+
+in-edition : (L : Limits) → editionOf (total L) ≡ Known L → NeverBlamed L
+in-edition L k cs w b h c =
+    let d : editionOf (length (w .store)) ≡ Known L = ap editionOf (accepted-says-edition .of-sound L (w .store) h .2) ∙ k in
+    never-from-sound cs w b (ap (λ (E : Edition). soundIn E (w .store)) d ∙ h) c
+
+pub never-six : NeverSix
+unfolding editionOf editionIn
+never-six = record { in-edition-1 = in-edition edition1 refl; in-edition-2 = in-edition edition2 refl }

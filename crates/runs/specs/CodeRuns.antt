@@ -1,10 +1,11 @@
--- Demand 3 of the code itself: two chained runs of calls that meet the contracts of the public functions.
+-- Demand 3 of the code itself: two chained runs of calls that meet the contracts of the public functions. And what one such run does to the store.
 -- Assumes nothing.
 use mathlib.Core.Path.{_≡_}
 use mathlib.Core.List.{List, [], _∷_, map}
 use mathlib.Core.Bool.{true}
 use Prim.Native.Nat.{ℕ}
 use lib.ListN.{length}
+use Rattle.octets.specs.Bytes.{Bytes}
 use Rattle.store.specs.declared.Found.{Found}
 use Rattle.store.specs.Search.{foundAs, find, key}
 use Rattle.session.specs.declared.Session.{Session}
@@ -12,10 +13,11 @@ use Rattle.session.specs.declared.Begun.{Begun}
 use Rattle.session.specs.declared.Received.{Received}
 use Rattle.session.specs.Sessions.{begunAs, Begins}
 use Rattle.session.specs.Rules.{receivedAs, receive, Does}
-use Rattle.runs.specs.Calls.{Call, starts, brings, searches, World, replyOf, sessionOf}
-use Rattle.runs.specs.Alike.{AlikeCalls, AlikeStores, heldIn}
+use Rattle.runs.specs.Calls.{Call, starts, brings, searches, World, Seen, begun, received, searched, replyOf, sessionOf}
+use Rattle.runs.specs.Alike.{AlikeCalls, AlikeStores, heldIn, isSound}
 use Rattle.runs.specs.Tally.{Tag, tally, messageIn}
 use Rattle.runs.specs.Secrecy.{Told, noneUnlike}
+use Rattle.runs.specs.Sound.{noneBlames}
 
 -- what a call hands back: its answer and, of a begin or a message, the output buffer afterwards; of a search, the part
 pub data Handed : Type 0 where
@@ -38,6 +40,12 @@ pub data CodeRun : List Call → World → List Handed → World → Type 0 wher
   -- `store::find` and `store::key`
   code-search : {cs : List Call} {hs : List Handed} {w v : World} {peer t : ℕ} {part : List ℕ} {r : Found} → foundAs r ≡ find (w .store) peer t → part ≡ key (w .store) peer t
       → CodeRun cs w hs v → CodeRun (searches peer t ∷ cs) w (by-search r part ∷ hs) v
+
+-- what is seen of what a call hands back
+abbrev pub seenBy : Handed → Seen
+seenBy (by-begin r out) = begun (begunAs r) out
+seenBy (by-message r out) = received (receivedAs r) (replyOf (receivedAs r) out) out
+seenBy (by-search r part) = searched (foundAs r) (length part)
 
 -- ---- what is alike of two
 
@@ -72,3 +80,10 @@ pub record AlikeCode (cs cs' : List Call) (w w' : World) (hs hs' : List Handed) 
 pub record SecrecyOfCalls : Type 0 where
   pub runs : (cs cs' : List Call) (w w' v v' : World) (hs hs' : List Handed) → w .session ≡ w' .session → AlikeStores (w .store) (w' .store) → AlikeCalls cs cs'
       → CodeRun cs w hs v → CodeRun cs' w' hs' v' → AlikeCode cs cs' w w' hs hs' v v'
+
+-- ---- the store of one
+
+-- from a sound store and with any session, no call of a run of the code is answered 6 or H12, and the store that it leaves is sound (document 02, change request 9)
+pub record NeverSixOfCalls : Type 0 where
+  pub runs : (cs : List Call) (w v : World) (hs : List Handed) → Bytes (w .store) → isSound (w .store) ≡ true → AlikeCalls cs cs → CodeRun cs w hs v
+      → (noneBlames (map seenBy hs) ≡ true) × (isSound (v .store) ≡ true)

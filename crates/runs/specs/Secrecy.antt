@@ -3,10 +3,9 @@
 use mathlib.Core.Path.{_≡_}
 use mathlib.Core.List.{List, [], _∷_, map}
 use mathlib.Core.Bool.{Bool, true, false, _&&_, not}
-use Rattle.octets.specs.Bytes.{Bytes}
 use Rattle.store.specs.Store.{Entry}
 use Rattle.runs.specs.Calls.{Call, World, allSeen, final}
-use Rattle.runs.specs.Alike.{AlikeCalls, AlikeStores, heldIn, isSound}
+use Rattle.runs.specs.Alike.{AlikeCalls, AlikeStores, heldIn}
 use Rattle.runs.specs.Tally.{Tag, tally, messageIn, replyIn}
 
 -- both stores have the tally's issuers and serials in its order, and two KMACs of one place differ exactly where the tag says unlike
@@ -41,7 +40,3 @@ pub record Alike (cs cs' : List Call) (w w' : World) : Type 0 where
 -- from equal sessions and alike stores, any two lists of alike calls
 pub record Secrecy : Type 0 where
   pub runs : (cs cs' : List Call) (w w' : World) → w .session ≡ w' .session → AlikeStores (w .store) (w' .store) → AlikeCalls cs cs' → Alike cs cs' w w'
-
--- a run from a sound store ends with a sound store; a list of calls is alike to itself where its messages are bytes
-pub record RunsKeepSound : Type 0 where
-  pub kept : (cs : List Call) (w : World) → Bytes (w .store) → isSound (w .store) ≡ true → AlikeCalls cs cs → isSound (final cs w .store) ≡ true

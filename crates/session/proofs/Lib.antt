@@ -6,4 +6,5 @@ pub mod RuleLaws
 pub mod StateLaws
 pub mod Theorems
 pub mod TransactionLaws
+pub mod StoreTestLaws
 pub mod AnswerLaws

@@ -32,6 +32,7 @@ use Rattle.session.specs.declared.Received.the-variants as received-as
 use Rattle.session.specs.Sessions.{Closed, Open, closing, remembering, replied}
 use Rattle.session.specs.Rules.{Outcome, refuse, respond, test, headerTests, transactionTests, repeats, Verdict, failed, passed, firstFailed, allPass, typeTest, verdict, heard, obey, judged, whileWaiting, inState, receiveIn, receive, reply, Does}
 use Rattle.session.specs.Parts.{Faults, Refuses, Reports, workIfSound}
+use Rattle.session.specs.Claims.{Tested}
 use Rattle.session.proofs.TestLaws.{tests-pass, header-fails, heard-old, heard-new}
 
 -- the same outcome under another name
@@ -68,15 +69,18 @@ module _ (L : Limits) (k : Command) (e : Session) (m s out : List ℕ) where
   pub work-unsound : sound L s ≡ false → respond 6 [] Open e m s out ≡ workIfSound L k e m s out
   work-unsound h = simp h
 
-  pub work-sound : sound L s ≡ true → (answer : Received) (session : Session) (after written output : List ℕ) (n : ℕ) → n ≡ requestNumber m → 23 + n ≤ length out
-      → Works L (e .own) k m n s after out written → Reports n e m written output answer session → Does (workIfSound L k e m s out) answer session after output
+  pub work-sound : sound L s ≡ true → obey L (Requests k) e m s out ≡ workIfSound L k e m s out
+  work-sound h = simp h
+
+  pub worked : (answer : Received) (session : Session) (after written output : List ℕ) (n : ℕ) → n ≡ requestNumber m → 23 + n ≤ length out
+      → Works L (e .own) k m n s after out written → Reports n e m written output answer session → Does (obey L (Requests k) e m s out) answer session after output
   unfolding obey requests
-  work-sound h answer session after written output n en ho w r =
+  worked answer session after written output n en ho w r =
       let es = entries L s in
       let rs = work L (e .own) (requests k m) es in
       let ew : work L (e .own) (requestsFrom k m 22 n) es ≡ rs = ap (λ (x : ℕ). work L (e .own) (requestsFrom k m 22 x) es) en in
       let d = r .by after out (work L (e .own) (requestsFrom k m 22 n) es .results) (results-length L (e .own) k m n 22 es) ho (w .output-is) in
-      does-as (ap₂ (λ (x : Work) (t : List ℕ). respond 0 (x .results) Open e m t out) ew (w .store-is ∙ ap (λ (x : Work). encode L (x .left)) ew) ∙ simp h) d
+      does-as (ap₂ (λ (x : Work) (t : List ℕ). respond 0 (x .results) Open e m t out) ew (w .store-is ∙ ap (λ (x : Work). encode L (x .left)) ew)) d
 
 -- ---- the tests after the type
 
@@ -157,6 +161,11 @@ module _ (L : Limits) (e : Session) (m s out : List ℕ) where
 pub received : (e : Session) (m s out : List ℕ) (d : Edition) → d ≡ editionOf (length s) → receiveIn d e m s out ≡ receive e m s out
 unfolding receive
 received e m s out d h = ap (λ (x : Edition). receiveIn x e m s out) h
+
+-- a message that comes to the table of tests
+pub tested-receive : (L : Limits) (e : Session) (m s out : List ℕ) → Tested L e m s out → judged (verdict L e m s) L (heard e m) m s out ≡ receive e m s out
+tested-receive L e m s out t =
+    open-long L e m s out (t .whole-header) ∙ in-open L e m s out (t .room) (t .is-open) ∙ received e m s out (Known L) (sym (t .edition-is))
 
 pub unknown : (e : Session) (m s out : List ℕ) → refuse 1 e s out ≡ receiveIn Unknown e m s out
 unfolding receiveIn

@@ -31,7 +31,7 @@ module _ (P : Session → Type 0) (e : Session) (m s out : List ℕ)
   unfolding refuse respond obey
   session-ends =
       receive-ends (λ o. P (o .session)) e m s out (λ n h. at-refusal) (at-closed e at-refusal) (at-opened (sequence m))
-      (λ response then h. at-replied (heard e m) then at-heard) (λ L task l h. obeyed L task)
+      (λ L t response then h. at-replied (heard e m) then at-heard) (λ L t task h. obeyed L task)
     where
       obeyed : (L : Limits) (task : Task) → P (obey L task (heard e m) m s out .session)
       obeyed L (Requests k) = at-replied (heard e m) Open at-heard

@@ -23,7 +23,7 @@ use Rattle.session.specs.declared.Session.{Session}
 use Rattle.session.specs.Sessions.{closing, Beginning, beginOutput}
 use Rattle.session.specs.Rules.{Answered, reply, opened, ended, refused, Outcome, refuse, respond, heard, obey, receive}
 use Rattle.session.specs.Claims.{RefusalWritesNothing, OnlyZeroChangesStore, TornLeavesStore, RefusalLeavesSession, OnlyRepliesWrite, ReplyLength}
-use Rattle.session.proofs.RuleLaws.{apart, Passed, receive-ends}
+use Rattle.session.proofs.RuleLaws.{apart, Passed, verdict-passed, receive-ends}
 
 -- ---- what is no reply writes nothing
 
@@ -40,7 +40,7 @@ unfolding refuse respond obey
 quiet e m s out =
     receive-ends (Quiet s out) e m s out (λ n h. record { store-kept = λ f. refl; output-kept = λ f. refl })
     (record { store-kept = λ f. refl; output-kept = λ f. refl }) (record { store-kept = λ f. refl; output-kept = λ f. refl })
-    (λ response then h. replies s out (respond response [] then (heard e m) m s out) 23 refl) (λ L task l h. obeyed (heard e m) L task)
+    (λ L t response then h. replies s out (respond response [] then (heard e m) m s out) 23 refl) (λ L t task h. obeyed (heard e m) L task)
   where
     obeyed : (d : Session) (L : Limits) (task : Task) → Quiet s out (obey L task d m s out)
     obeyed d L (Requests k) = replies s out (obey L (Requests k) d m s out) _ refl
@@ -80,17 +80,17 @@ only-zero-changes-store =
     record {
       kept = λ e m s out n.
           receive-ends (Kept s n) e m s out (λ k h. record { kept = λ q f. refl }) (record { kept = λ q f. refl }) (record { kept = λ q f. refl })
-          (λ response then h. record { kept = λ q f. refl }) (λ L task l h. obey-zero (heard e m) m s out n L task) .kept;
+          (λ L t response then h. record { kept = λ q f. refl }) (λ L t task h. obey-zero (heard e m) m s out n L task) .kept;
     }
 
 -- ---- a torn message
 
 -- the store is as it was where no command is obeyed
-store-left : (e : Session) (m s out : List ℕ) → (leb 20 (length m) ≡ true → messageLength m ≡ length m → ⊥) → receive e m s out .store ≡ s
+store-left : (e : Session) (m s out : List ℕ) → (20 ≤ length m → messageLength m ≡ length m → ⊥) → receive e m s out .store ≡ s
 unfolding refuse respond
 store-left e m s out f =
-    receive-ends (λ o. o .store ≡ s) e m s out (λ n h. refl) refl refl (λ response then h. refl)
-    (λ L task l h. absurd (f l (eqb-true (messageLength m) (length m) (and-left (eqb (messageLength m) (length m)) (leb (length m) 5000) (h .length-ok)))))
+    receive-ends (λ o. o .store ≡ s) e m s out (λ n h. refl) refl refl (λ L t response then h. refl)
+    (λ L t task h. absurd (f (t .whole-header) (eqb-true (messageLength m) (length m) (and-left (eqb (messageLength m) (length m)) (leb (length m) 5000) (verdict-passed L e m s task h .length-ok)))))
 
 -- a prefix with a whole length field has the message's
 prefix-length : (m : List ℕ) (k : ℕ) → 4 ≤ k → messageLength (take k m) ≡ messageLength m
@@ -108,7 +108,6 @@ torn-leaves-store =
       prefix = λ e m s out k h q.
           let n : length (take k m) ≡ k = length-take-le k m (omega arith) in
           store-left e (take k m) s out (λ l p.
-          let a : 20 ≤ length (take k m) = leb-true 20 (length (take k m)) l in
           let b : messageLength (take k m) ≡ messageLength m = prefix-length m k (omega arith) in
           let c : length m ≡ k = sym q ∙ sym b ∙ p ∙ n in
           omega arith);
@@ -127,11 +126,11 @@ leaves : (e : Session) (m s out : List ℕ) (n : ℕ) → Leaves e n (receive e 
 unfolding refuse respond obey
 leaves e m s out n =
     receive-ends (Leaves e n) e m s out
-    (λ k h. record { as-it-was = λ q f. refl; closed = λ q f. let j : k ≡ n = cc in absurd (eqb-false k 5 h (j ∙ f)) })
+    (λ k h. record { as-it-was = λ q f. refl; closed = λ q f. let j : k ≡ n = cc in absurd (let g : k ≤ 4 = leb-true k 4 h in omega arith) })
     (record { as-it-was = λ q f. let j : 5 ≡ n = cc in absurd (f (sym j)); closed = λ q f. refl })
     (not-refused e n _ (apart opened (refused n) refl))
-    (λ response then h. not-refused e n (respond response [] then (heard e m) m s out) (λ q. no-reply _ n 23 q refl))
-    (λ L task l h. obeyed (heard e m) L task)
+    (λ L t response then h. not-refused e n (respond response [] then (heard e m) m s out) (λ q. no-reply _ n 23 q refl))
+    (λ L t task h. obeyed (heard e m) L task)
   where
     obeyed : (d : Session) (L : Limits) (task : Task) → Leaves e n (obey L task d m s out)
     obeyed d L (Requests k) = not-refused e n (obey L (Requests k) d m s out) (λ q. no-reply _ n _ q refl)
@@ -162,8 +161,8 @@ long e m s out n =
     receive-ends (Long n) e m s out (λ k h. not-replied n (refuse k e s out) (no-reply _ k n refl))
     (not-replied n (refuse 5 (closing e) s out) (no-reply _ 5 n refl))
     (not-replied n _ (apart opened (reply n) refl))
-    (λ response then h. few-results n 0 (respond response [] then (heard e m) m s out) refl (lit≤ tt))
-    (λ L task l h. obeyed (heard e m) L task h)
+    (λ L t response then h. few-results n 0 (respond response [] then (heard e m) m s out) refl (lit≤ tt))
+    (λ L t task h. obeyed (heard e m) L task (verdict-passed L e m s task h))
   where
     obeyed : (d : Session) (L : Limits) (task : Task) → Passed m task → Long n (obey L task d m s out)
     obeyed d L (Requests k) h =

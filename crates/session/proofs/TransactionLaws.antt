@@ -20,11 +20,11 @@ use Rattle.message.specs.Header.{transaction}
 use Rattle.session.specs.declared.Session.{Session}
 use Rattle.session.specs.Sessions.{State, Closed, Waiting, Open, stateOf, remembering}
 use Rattle.session.specs.Rules.{Answered, reply, opened, ended, refused, Outcome, refuse, respond, headerTests, allPass, Verdict, passed, failed, verdict, firstFailed, judged, heard, obey, opens, whileWaiting, inState, receiveIn, receive}
-use Rattle.session.specs.Claims.{Recalls, beside, SameBeside, HeardIsRemembered, NotHeard, OpeningForgets, NoneIsNone, IsTen, RepeatedIsTen, TenIsRepeated}
+use Rattle.session.specs.Claims.{Recalls, beside, SameBeside, HeardIsRemembered, NotHeard, OpeningForgets, NoneIsNone, Responded, RepeatedIsTen, TenIsRepeated}
 use Rattle.session.proofs.SessionLaws.{begin-made}
-use Rattle.session.proofs.OutcomeLaws.{transaction-judged, open-long, in-open, received}
+use Rattle.session.proofs.OutcomeLaws.{transaction-judged, tested-receive}
 use Rattle.session.proofs.TestLaws.{heard-old, heard-new}
-use Rattle.session.proofs.RuleLaws.{rank, apart, receive-ends}
+use Rattle.session.proofs.RuleLaws.{apart, told, obeyed-apart, obeyed-zero, verdict-ten, receive-ends}
 use Rattle.session.proofs.Theorems.{refusal-leaves-session}
 
 -- ---- what a session remembers
@@ -56,14 +56,8 @@ heard-is-remembered =
           let r = heard-recalls e m h in
           receive-ends (λ o. ((n : ℕ) → o .answer ≡ refused n → ⊥) → (o .answer ≡ opened → ⊥) → Recalls true (transaction m) (o .session)) e m s out
           (λ n k f g. absurd (f n refl)) (λ f g. absurd (f 5 refl)) (λ f g. absurd (g refl))
-          (λ response then k f g. replied-recalls m s out (heard e m) r response then) (λ L task l k f g. obeyed-recalls m s out (heard e m) r L task);
+          (λ L t response then k f g. replied-recalls m s out (heard e m) r response then) (λ L t task k f g. obeyed-recalls m s out (heard e m) r L task);
     }
-
-obeyed-apart : (d : Session) (m s out : List ℕ) (L : Limits) (task : Task) (b : Answered) → eqb 0 (rank b) ≡ false → eqb 1 (rank b) ≡ false → obey L task d m s out .answer ≡ b → ⊥
-unfolding respond obey
-obeyed-apart d m s out L (Requests k) b h g = apart _ b h
-obeyed-apart d m s out L DeleteAll b h g = apart _ b h
-obeyed-apart d m s out L EndOfUpdate b h g = apart _ b g
 
 refused-recalls : (e : Session) (m s out : List ℕ) (n : ℕ) → receive e m s out .answer ≡ refused n → (b : Bool) → eqb n 5 ≡ b
     → Recalls (e .remembered) (e .transaction) (receive e m s out .session)
@@ -80,7 +74,7 @@ not-heard =
           let r = old-recalls e m h in
           receive-ends (λ o. (o .answer ≡ opened → ⊥) → Recalls (e .remembered) (e .transaction) (o .session)) e m s out
           (λ n k g. record { remembered-is = refl; number-is = refl }) (λ g. record { remembered-is = refl; number-is = refl }) (λ g. absurd (g refl))
-          (λ response then k g. replied-recalls m s out (heard e m) r response then) (λ L task l k g. obeyed-recalls m s out (heard e m) r L task);
+          (λ L t response then k g. replied-recalls m s out (heard e m) r response then) (λ L t task k g. obeyed-recalls m s out (heard e m) r L task);
       after-refusal = λ e m s out n q. refused-recalls e m s out n q (eqb n 5) refl;
     }
 
@@ -92,7 +86,7 @@ opening-forgets =
       of-message = λ e m s out.
           receive-ends (λ o. o .answer ≡ opened → Recalls false 0 (o .session)) e m s out
           (λ n h q. absurd (apart (refused n) opened refl q)) (λ q. absurd (apart (refused 5) opened refl q)) (λ q. record { remembered-is = refl; number-is = refl })
-          (λ response then k q. absurd (apart (reply 23) opened refl q)) (λ L task l k q. absurd (obeyed-apart (heard e m) m s out L task opened refl refl q));
+          (λ L t response then k q. absurd (apart (reply 23) opened refl q)) (λ L t task k q. absurd (obeyed-apart (heard e m) m s out L task opened refl refl q));
     }
 
 -- ---- a number beside none
@@ -153,29 +147,17 @@ none-is-none = record { any-number = λ e n m s out h. beside-edition m s out e 
 
 -- ---- RESPONSE 10
 
-ten-told : (s : List ℕ) (d : Session) (m out : List ℕ) → IsTen s (respond 10 [] Closed d m s out)
-unfolding respond splice
-ten-told s d m out = record { answer-is = refl; type-is = refl; response-is = refl; closed = refl; store-kept = refl }
-
 pub repeated-is-ten : RepeatedIsTen
-unfolding firstFailed
+unfolding firstFailed respond splice
 repeated-is-ten =
     record {
-      second = λ e m s out h f g e' q o L m' s' out' is long head h' t.
+      second = λ e m s out h f g e' q L m' s' out' t h' n.
           let r = subst (Recalls true (transaction m)) (sym q) (heard-is-remembered .recalled e m s out h f g) in
-          let n = and-both (e' .remembered) (eqb (transaction m') (e' .transaction)) (r .remembered-is) (eq-eqb (transaction m') (e' .transaction) (t ∙ sym (r .number-is))) in
+          let both = and-both (e' .remembered) (eqb (transaction m') (e' .transaction)) (r .remembered-is) (eq-eqb (transaction m') (e' .transaction) (n ∙ sym (r .number-is))) in
           let d = remembering e' (transaction m') in
-          subst (IsTen s')
-          (transaction-judged L e' m' s' out' h' d refl true n ∙ open-long L e' m' s' out' head ∙ in-open L e' m' s' out' long o ∙ received e' m' s' out' (Known L) (sym is))
-          (ten-told s' d m' out');
+          subst (λ o. Responded 10 0 Closed o × (o .store ≡ s')) (transaction-judged L e' m' s' out' h' d refl true both ∙ tested-receive L e' m' s' out' t)
+          (told 10 Closed d m' s' out', refl);
     }
-
--- a command past all tests is answered 0
-obeyed-zero : (d : Session) (m s out : List ℕ) (L : Limits) (task : Task) (n : ℕ) → obey L task d m s out .answer ≡ reply n → getD (obey L task d m s out .output) 20 0 ≡ 10 → ⊥
-unfolding respond obey splice
-obeyed-zero d m s out L (Requests k) n q z = omega arith
-obeyed-zero d m s out L DeleteAll n q z = omega arith
-obeyed-zero d m s out L EndOfUpdate n q z = apart ended (reply n) refl q
 
 pub ten-is-repeated : TenIsRepeated
 unfolding refuse respond splice
@@ -184,9 +166,9 @@ ten-is-repeated =
       only = λ e m s out n.
           receive-ends (λ o. o .answer ≡ reply n → getD (o .output) 19 0 ≡ 11 → getD (o .output) 20 0 ≡ 10 → (allPass (headerTests e m) ≡ true) × Recalls true (transaction m) e) e m s out
           (λ k h q y z. absurd (apart (refused k) (reply n) refl q)) (λ q y z. absurd (apart (refused 5) (reply n) refl q)) (λ q y z. absurd (apart opened (reply n) refl q))
-          (λ response then k q y z.
-          let both = k .ten z .1 in
+          (λ L t response then v q y z.
+          let p = verdict-ten L e m s then (v ∙ ap (λ (r : ℕ). failed r then) z) in
           let is = eqb (transaction m) (e .transaction) in
-          (k .ten z .0, record { remembered-is = and-left (e .remembered) is both; number-is = sym (eqb-true (transaction m) (e .transaction) (and-right (e .remembered) is both)) }))
-          (λ L task l k q y z. absurd (obeyed-zero (heard e m) m s out L task n q z));
+          (p .0, record { remembered-is = and-left (e .remembered) is (p .1); number-is = sym (eqb-true (transaction m) (e .transaction) (and-right (e .remembered) is (p .1))) }))
+          (λ L t task v q y z. absurd (obeyed-zero (heard e m) m s out L task n 9 q z));
     }

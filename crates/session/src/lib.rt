@@ -3,6 +3,7 @@ ghost use mathlib.Core.Path.{_≡_};
 ghost use Prim.Native.Nat.{_≤_};
 ghost use lib.ListN.{length};
 ghost use Rattle.store.specs.Layout.{total, Bounded};
+ghost use Rattle.store.specs.Store.{sound};
 ghost use Rattle.refusal.specs.House.{houseNumber};
 ghost use Rattle.message.specs.Header.{kind};
 ghost use Rattle.message.specs.Body.{bodyOk};
@@ -268,17 +269,32 @@ impl Session {
         }
     }
 
-    // A command with a list of requests: its work where the store is sound, else RESPONSE 6.
+    // The requests of a command, on a sound store. RESPONSE is 0, whatever the RESULTs.
     fn work(self, command: Command, lim: Limits, m: &[u8], s: &mut [u8], out: &mut [u8]) -> Turn
+        requires { ⌜ (Bounded lim) × (sound lim (now s) ≡ true) × (20 ≤ length (now m)) × (bodyOk (Task.Requests command) (now m) ≡ true) × (1032 ≤ length (now out)) ⌝ }
+        ensures { λ r. ⌜ Does (obey lim (Task.Requests command) self (now (m .entry)) (now (s .entry)) (now (out .entry))) (r .answer) (r .session) (now (s .exit)) (now (out .exit)) ⌝ }
+    {
+        let n = octets::get16_at(m, REQ_NUM_AT);
+        command::work(s, out, lim, self.own, command, m, n as usize);
+        self.report(n, m, out)
+    }
+
+    // The store test: an unsound store is answered 6, before any request is worked and nowhere else.
+    fn work_if_sound(
+        self,
+        command: Command,
+        lim: Limits,
+        m: &[u8],
+        s: &mut [u8],
+        out: &mut [u8],
+    ) -> Turn
         requires { ⌜ (Bounded lim) × (20 ≤ length (now m)) × (bodyOk (Task.Requests command) (now m) ≡ true) × (1032 ≤ length (now out)) ⌝ }
         ensures { λ r. ⌜ Does (workIfSound lim command self (now (m .entry)) (now (s .entry)) (now (out .entry))) (r .answer) (r .session) (now (s .exit)) (now (out .exit)) ⌝ }
     {
         if !is_sound(s, lim) {
             return self.keep_with(Session::STORE_UNSOUND, m, out);
         }
-        let n = octets::get16_at(m, REQ_NUM_AT);
-        command::work(s, out, lim, self.own, command, m, n as usize);
-        self.report(n, m, out)
+        self.work(command, lim, m, s, out)
     }
 
     fn delete_all(self, lim: Limits, m: &[u8], s: &mut [u8], out: &mut [u8]) -> Turn
@@ -298,7 +314,7 @@ impl Session {
             return self.drop_with(Session::FORMAT_ERROR, m, out);
         }
         match task {
-            Task::Requests(command) => self.work(command, lim, m, s, out),
+            Task::Requests(command) => self.work_if_sound(command, lim, m, s, out),
             Task::DeleteAll => self.delete_all(lim, m, s, out),
             Task::EndOfUpdate => Turn {
                 answer: Received::Ended,

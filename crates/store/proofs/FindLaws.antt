@@ -42,6 +42,18 @@ module _ (L : Limits) (s : List ℕ) (peer t : ℕ) (known : editionOf (length s
   unfolding findIn
   in-sound h = in-edition ∙ rw h
 
+  -- H12 is that of an unsound store
+  pub blamed-unsound : find s peer t ≡ unfound 12 → sound L s ≡ false
+  blamed-unsound q = go (sound L s) refl
+    where
+      not-placed : (b : Bool) → orElse b 11 (found (suc (choice .place)) (choice .end)) ≡ unfound 12 → ⊥
+      not-placed true z = not-found 12 (suc (choice .place)) (choice .end) (sym z)
+      not-placed false z = let y : _≡_ {A = ℕ} 11 12 = cc in omega arith
+
+      go : (b : Bool) → sound L s ≡ b → b ≡ false
+      go true h = absurd (not-placed (ltb (choice .place) size) (sym (in-sound h) ∙ q))
+      go false h = refl
+
   -- ---- a record is found
 
   pub found-taken : (p until : ℕ) → find s peer t ≡ found p until → Taken L s peer t p until

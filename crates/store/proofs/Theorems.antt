@@ -2,7 +2,7 @@
 -- Assumes nothing.
 use mathlib.Core.Path.{_≡_, refl, sym, ap, subst, _∙_}
 use mathlib.Core.Bool.{Bool, true, false}
-use mathlib.Core.List.{List}
+use mathlib.Core.List.{List, [], _∷_}
 use mathlib.Core.Logic.{_⊎_, inl, inr, ⊎-elim}
 use Prim.Native.Nat.{ℕ, _<_}
 use native.Mathlib.Omega.{arith}
@@ -18,10 +18,12 @@ use Rattle.store.specs.declared.Edition.the-variants.{Known, Unknown}
 use Rattle.store.specs.Layout.{edition1, edition2, editionOf}
 use Rattle.store.specs.Store.{encode, entries, sound}
 use Rattle.store.specs.Search.{fits, unfound, findIn, find, emptyIn, emptied}
-use Rattle.store.specs.Claims.{OneStore, HeaderSays, AcceptedSaysEdition, RequestsKeepSound, BothEndsFit, ReversedNeverFits, OneMomentFits, EndlessFits, placeless, LatestTaken, NoKeyExactly, OrderKeepsEnd, RefusedEmptyWritesNothing, OneAnswer}
+use Rattle.store.specs.Request.{work}
+use Rattle.store.specs.WellFormed.{AllReadable}
+use Rattle.store.specs.Claims.{OneStore, HeaderSays, AcceptedSaysEdition, RequestsKeepSound, BothEndsFit, ReversedNeverFits, OneMomentFits, EndlessFits, placeless, LatestTaken, UnsoundExactly, NoKeyExactly, OrderKeepsEnd, RefusedEmptyWritesNothing, OneAnswer}
 use Rattle.store.proofs.SoundLaws.{Sound, sound-says}
 use Rattle.store.proofs.SearchLaws.{known-edition, find-unsound}
-use Rattle.store.proofs.FindLaws.{in-sound, found-taken, one-found, none-there, none-found, same-taken}
+use Rattle.store.proofs.FindLaws.{in-sound, blamed-unsound, found-taken, one-found, none-there, none-found, same-taken}
 use Rattle.store.proofs.DecodeLaws.{encode-entries}
 use Rattle.store.proofs.WellFormedLaws.{sound-wellFormed}
 use Rattle.store.proofs.EncodeLaws.{entries-encode, encode-sound, one-list}
@@ -62,7 +64,14 @@ unfolding find
 accepted-says-edition = record { of-sound = header-says; of-find = λ s peer t f g. found-edition _ s peer t (known-edition _) f g }
 
 pub requests-keep-sound : RequestsKeepSound
-requests-keep-sound = record { kept = λ L own s b h rs f. work-sound L own s b h rs f }
+unfolding work AllReadable
+requests-keep-sound =
+    record {
+      in-edition-1 = λ own s b h rs f. work-sound edition1 own s b h rs f;
+      in-edition-2 = λ own s b h rs f. work-sound edition2 own s b h rs f;
+      in-any = λ L own s b h rs f. work-sound L own s b h rs f;
+      each = λ L own s b h r f. work-sound L own s b h (r ∷ []) (f, tt);
+    }
 
 pub both-ends-fit : BothEndsFit
 both-ends-fit = record { fits-then = is-between; only-then = between-true }
@@ -90,6 +99,22 @@ endless-fits = record { always = λ start t h k. is-between start 0xffffffff t h
 
 pub latest-taken : LatestTaken
 latest-taken = record { taken = found-taken; one-found = one-found }
+
+blamed-edition : (E : Edition) (s : List ℕ) (peer t : ℕ) → editionOf (length s) ≡ E → find s peer t ≡ unfound 12 → (L : Limits) × (E ≡ Known L) × (sound L s ≡ false)
+unfolding find findIn
+blamed-edition Unknown s peer t d q =
+    let z : unfound 1 ≡ unfound 12 = ap (λ (E : Edition). findIn E s peer t) (sym d) ∙ q in
+    let y : _≡_ {A = ℕ} 1 12 = cc in
+    absurd (omega arith)
+blamed-edition (Known L) s peer t d q = (L, refl, blamed-unsound L s peer t d q)
+
+pub unsound-exactly : UnsoundExactly
+unfolding find
+unsound-exactly =
+    record {
+      only = λ s peer t q. blamed-edition (editionOf (length s)) s peer t refl q;
+      unsound = λ L s peer t d h. ap (λ (E : Edition). findIn E s peer t) d ∙ find-unsound L s peer t h;
+    }
 
 pub no-key-exactly : NoKeyExactly
 no-key-exactly = record { none-serves = none-there; no-key = none-found }

@@ -17,8 +17,8 @@ use Rattle.store.specs.declared.Emptied.{Emptied}
 use Rattle.store.specs.Layout.{Bounded, total, edition1, edition2, editionOf}
 use Rattle.store.specs.Store.{Entry, encode, entries, sound}
 use Rattle.store.specs.Search.{fits, serves, Finding, found, unfound, find, key, foundAs, emptiedAs, emptyIn, emptied}
-use Rattle.store.specs.Request.{Request, work}
-use Rattle.store.specs.WellFormed.{nobody, WellFormed, AllReadable}
+use Rattle.store.specs.Request.{Request, after, work}
+use Rattle.store.specs.WellFormed.{nobody, WellFormed, Readable, AllReadable}
 
 -- a list of entries has one store only, and a sound store one list
 pub record OneStore : Type 0 where
@@ -39,10 +39,18 @@ pub record AcceptedSaysEdition : Type 0 where
   pub of-sound : (L : Limits) (s : List ℕ) → sound L s ≡ true → HeaderSays L s
   pub of-find : (s : List ℕ) (peer t : ℕ) → (find s peer t ≡ unfound 1 → ⊥) → (find s peer t ≡ unfound 12 → ⊥) → HeaderSays edition1 s ⊎ HeaderSays edition2 s
 
--- every request, whatever its RESULT, keeps a sound store sound, over any list of requests and in any edition
+-- change request 9: every request, whatever its RESULT, leaves a sound store sound, over any sequence of requests. The requests before one in a message are such a
+-- sequence too: so the store is sound before each request
+abbrev pub KeepsSound : Limits → Type 0
+KeepsSound L = (own : ℕ) (s : List ℕ) → Bytes s → sound L s ≡ true → (rs : List Request) → AllReadable rs → sound L (encode L (work L own rs (entries L s) .left)) ≡ true
+
+-- in both editions, and in any other
 pub record RequestsKeepSound : Type 0 where
-  pub kept : (L : Limits) (own : ℕ) (s : List ℕ) → Bytes s → sound L s ≡ true → (rs : List Request) → AllReadable rs
-      → sound L (encode L (work L own rs (entries L s) .left)) ≡ true
+  pub in-edition-1 : KeepsSound edition1
+  pub in-edition-2 : KeepsSound edition2
+  pub in-any : (L : Limits) → KeepsSound L
+  -- one request
+  pub each : (L : Limits) (own : ℕ) (s : List ℕ) → Bytes s → sound L s ≡ true → (r : Request) → Readable r → sound L (encode L (after L own r (entries L s))) ≡ true
 
 -- change request 4: a period fits exactly from its start to its end, both included
 pub record BothEndsFit : Type 0 where
@@ -88,6 +96,11 @@ pub record LatestTaken : Type 0 where
 
 abbrev pub NoneServes : List Entry → ℕ → ℕ → Type 0
 NoneServes es peer t = (j : ℕ) → j < length es → serves peer t (getD es j nobody) ≡ false
+
+-- H12 exactly where the length is that of an edition and the store is not sound in it
+pub record UnsoundExactly : Type 0 where
+  pub only : (s : List ℕ) (peer t : ℕ) → find s peer t ≡ unfound 12 → (L : Limits) × (editionOf (length s) ≡ Known L) × (sound L s ≡ false)
+  pub unsound : (L : Limits) (s : List ℕ) (peer t : ℕ) → editionOf (length s) ≡ Known L → sound L s ≡ false → find s peer t ≡ unfound 12
 
 -- H11 exactly where the store is sound and no entry serves
 pub record NoKeyExactly : Type 0 where

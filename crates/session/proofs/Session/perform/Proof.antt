@@ -35,8 +35,8 @@ returns c =
 enum-known-task : tie.Need-enum-known-task
 enum-known-task c = search needs
 
-work-requires : tie.Need-work-requires
-work-requires c κs =
+work-if-sound-requires : tie.Need-work-if-sound-requires
+work-if-sound-requires c κs =
     let list = c .before .before .before in
     let test = list .before .before in
     let body = test .before in
@@ -74,7 +74,7 @@ returns-2 c =
     let ok : bodyOk (a .task) (a .m .now) ≡ true = test-holds (body .body-ok .result) (body .body-ok .ensures) (test .if1 .left) in
     let k = list .task .given .0 .0 in
     let is : a .task ≡ Requests k = list .task .given .1 in
-    does-as (list-judged (a .lim) (a .self) (a .m .now) (a .s .now) (a .out .now) k (ap (λ (t : Task). bodyOk t (a .m .now)) (sym is) ∙ ok) ∙ ap (λ (t : Task). judged (typeTest (Asks t) (a .lim) (a .m .now) (a .s .now)) (a .lim) (a .self) (a .m .now) (a .s .now) (a .out .now)) (sym is)) (done .work .ensures)
+    does-as (list-judged (a .lim) (a .self) (a .m .now) (a .s .now) (a .out .now) k (ap (λ (t : Task). bodyOk t (a .m .now)) (sym is) ∙ ok) ∙ ap (λ (t : Task). judged (typeTest (Asks t) (a .lim) (a .m .now) (a .s .now)) (a .lim) (a .self) (a .m .now) (a .s .now) (a .out .now)) (sym is)) (done .work-if-sound .ensures)
 
 same-length-4 : tie.Need-same-length-4
 same-length-4 c = search needs
@@ -114,7 +114,7 @@ perform-spec =
     same-length
     returns
     enum-known-task
-    work-requires
+    work-if-sound-requires
     enum-told
     delete-all-requires
     enum-told-2

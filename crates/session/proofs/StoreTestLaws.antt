@@ -1,0 +1,66 @@
+-- RESPONSE 6 is the store test's alone: the claim of specs/Claims.antt on it, proved.
+-- Assumes nothing.
+use mathlib.Core.Path.{_≡_, refl, sym, ap, _∙_, subst}
+use mathlib.Core.Bool.{Bool, true, false, cond}
+use mathlib.Core.List.{List, []}
+use Prim.Native.Nat.{ℕ, _+_}
+use lib.ListN.{getD}
+use Rattle.octets.specs.Bytes.{splice}
+use Rattle.octets.proofs.BoolLaws.{clash}
+use Rattle.store.specs.declared.Limits.{Limits}
+use Rattle.store.specs.Store.{entries, sound}
+use Rattle.message.specs.declared.Task.{Task}
+use Rattle.message.specs.declared.Task.the-variants.{Requests, DeleteAll, EndOfUpdate}
+use Rattle.message.specs.declared.Kind.{Kind}
+use Rattle.message.specs.declared.Kind.the-variants.{Asks}
+use Rattle.message.specs.Header.{kind}
+use Rattle.message.specs.Body.{requestNumber, requests}
+use Rattle.command.proofs.WorkLaws.{results-length}
+use Rattle.session.specs.declared.Session.{Session}
+use Rattle.session.specs.Sessions.{Open}
+use Rattle.session.specs.Rules.{reply, opened, refused, Outcome, refuse, respond, asksStore, headerTests, transactionTests, Verdict, passed, failed, firstFailed, typeTest, verdict, heard, obey, judged, receive}
+use Rattle.session.specs.Claims.{Responded, AtStoreTest, SixIsTheStoreTest}
+use Rattle.session.proofs.TestLaws.{tests-pass}
+use Rattle.session.proofs.OutcomeLaws.{tested-receive}
+use Rattle.session.proofs.RuleLaws.{apart, told, obeyed-zero, verdict-six, receive-ends}
+
+module _ (L : Limits) (e : Session) (m s out : List ℕ) (a : AtStoreTest L e m s out) where
+  -- what the store test decides
+  at-verdict : (b : Bool) → sound L s ≡ b → verdict L e m s ≡ cond b (passed (a .task)) (failed 6 Open)
+  unfolding verdict firstFailed
+  at-verdict b h =
+      tests-pass (headerTests e m) (a .header-right) (firstFailed (transactionTests e m) (typeTest (kind m) L m s))
+      ∙ tests-pass (transactionTests e m) (a .number-new) (typeTest (kind m) L m s)
+      ∙ ap (λ (k : Kind). typeTest k L m s) (a .type-is)
+      ∙ simp (a .body-right, a .asks, h)
+
+  at-receive : (v : Verdict) → verdict L e m s ≡ v → judged v L (heard e m) m s out ≡ receive e m s out
+  at-receive v q = ap (λ (w : Verdict). judged w L (heard e m) m s out) (sym q) ∙ tested-receive L e m s out (a .tested)
+
+-- the work of a task that asks the store
+worked-told : (L : Limits) (task : Task) → asksStore task ≡ true → (e : Session) (m s out : List ℕ) → Responded 0 (requestNumber m) Open (obey L task e m s out)
+unfolding respond obey splice requests
+worked-told L (Requests k) h e m s out =
+    record {
+      answer-is = ap (λ (n : ℕ). reply (23 + n)) (results-length L (e .own) k m (requestNumber m) 22 (entries L s));
+      type-is = refl;
+      response-is = refl;
+      state-is = refl;
+    }
+worked-told L DeleteAll h e m s out = clash false h refl
+worked-told L EndOfUpdate h e m s out = clash false h refl
+
+pub six-is-the-store-test : SixIsTheStoreTest
+unfolding refuse respond splice
+six-is-the-store-test =
+    record {
+      only = λ e m s out n.
+          receive-ends (λ o. o .answer ≡ reply n → getD (o .output) 19 0 ≡ 11 → getD (o .output) 20 0 ≡ 6 → (L : Limits) × AtStoreTest L e m s out × (sound L s ≡ false)) e m s out
+          (λ k h q y z. absurd (apart (refused k) (reply n) refl q)) (λ q y z. absurd (apart (refused 5) (reply n) refl q)) (λ q y z. absurd (apart opened (reply n) refl q))
+          (λ L t response then v q y z. let p = verdict-six L e m s out t then (v ∙ ap (λ (r : ℕ). failed r then) z) in (L, p .0, p .1))
+          (λ L t task v q y z. absurd (obeyed-zero (heard e m) m s out L task n 5 q z));
+      unsound = λ L e m s out a h.
+          subst (λ o. Responded 6 0 Open o × (o .store ≡ s)) (at-receive L e m s out a (failed 6 Open) (at-verdict L e m s out a false h)) (told 6 Open (heard e m) m s out, refl);
+      is-sound = λ L e m s out a h.
+          subst (Responded 0 (requestNumber m) Open) (at-receive L e m s out a (passed (a .task)) (at-verdict L e m s out a true h)) (worked-told L (a .task) (a .asks) (heard e m) m s out);
+    }
