@@ -1,9 +1,9 @@
 -- No call finds a sound store unsound.
 -- Assumes nothing.
-use mathlib.Core.Path.{_≡_, refl, sym, ap, _∙_, subst}
+use mathlib.Core.Path.{_≡_, refl, sym, ap, _∙_}
 use mathlib.Core.Bool.{Bool, true, false, not, _&&_}
 use mathlib.Core.List.{List}
-use Prim.Native.Nat.{ℕ, _≤_, _<_}
+use Prim.Native.Nat.{ℕ, _≤_}
 use native.Mathlib.Omega.{arith}
 use lib.Dec.{eqb, leb}
 use lib.ListN.{length, getD, take}
@@ -18,7 +18,7 @@ use Rattle.store.specs.Search.{Finding, found, unfound, find}
 use Rattle.store.proofs.Theorems.{unsound-exactly}
 use Rattle.session.specs.declared.Session.{Session}
 use Rattle.session.specs.Sessions.{begins, orRefuse, begin}
-use Rattle.session.specs.Rules.{Answered, reply, opened, ended, refused, refuse, respond, obey, receive}
+use Rattle.session.specs.Rules.{Answered, reply, opened, ended, refused, refuse, respond, receive}
 use Rattle.session.proofs.RuleLaws.{apart, obeyed-apart, receive-ends}
 use Rattle.session.proofs.Theorems.{reply-length}
 use Rattle.session.proofs.StoreTestLaws.{six-is-the-store-test}

@@ -4,13 +4,12 @@ use mathlib.Core.Path.{_≡_, refl, sym, ap, ap₂, _∙_}
 use mathlib.Core.List.{List, [], _∷_, map}
 use Prim.Native.Nat.{ℕ}
 use lib.ListN.{length}
-use Rattle.store.specs.Search.{foundAs}
 use Rattle.store.proofs.Theorems as stores
 use Rattle.session.specs.declared.Session.{Session}
-use Rattle.session.specs.Sessions.{Beginning, begunAs}
+use Rattle.session.specs.Sessions.{Beginning}
 use Rattle.session.specs.Rules.{Answered, receivedAs}
 use Rattle.session.proofs.AnswerLaws as sessions
-use Rattle.runs.specs.Calls.{Call, World, Seen, begun, received, searched, replyOf, seen, sessionOf, next, allSeen, final}
+use Rattle.runs.specs.Calls.{Call, World, begun, received, searched, replyOf, seen, sessionOf, next, allSeen, final}
 use Rattle.runs.specs.Alike.{AlikeCalls, no-calls, alike-begin, alike-message, alike-search, isSound}
 use Rattle.runs.specs.Tally.{replyIn}
 use Rattle.runs.specs.Secrecy.{Alike}

@@ -1,7 +1,7 @@
 -- What a message leaves, step by step from the work of a command to the call.
 -- Assumes nothing.
 use mathlib.Core.Path.{_≡_, refl, sym, ap, ap₂, _∙_, subst}
-use mathlib.Core.Bool.{Bool, true, false, not, cond}
+use mathlib.Core.Bool.{Bool, true, false, not}
 use mathlib.Core.List.{List, [], _∷_, _++_}
 use Prim.Native.Nat.{ℕ, _+_, _≤_, _<_}
 use native.Mathlib.Omega.{arith}
@@ -30,7 +30,7 @@ use Rattle.session.specs.declared.Session.{Session}
 use Rattle.session.specs.declared.Received.{Received}
 use Rattle.session.specs.declared.Received.the-variants as received-as
 use Rattle.session.specs.Sessions.{Closed, Open, closing, remembering, replied}
-use Rattle.session.specs.Rules.{Outcome, refuse, respond, test, headerTests, transactionTests, repeats, Verdict, failed, passed, firstFailed, allPass, typeTest, verdict, heard, obey, judged, whileWaiting, inState, receiveIn, receive, reply, Does}
+use Rattle.session.specs.Rules.{Outcome, refuse, respond, test, headerTests, transactionTests, repeats, Verdict, firstFailed, allPass, typeTest, verdict, heard, obey, judged, whileWaiting, inState, receiveIn, receive, reply, Does}
 use Rattle.session.specs.Parts.{Faults, Refuses, Reports, workIfSound}
 use Rattle.session.specs.Claims.{Tested}
 use Rattle.session.proofs.TestLaws.{tests-pass, header-fails, heard-old, heard-new}
@@ -67,9 +67,11 @@ reports n e m written after session number en ea es =
 
 module _ (L : Limits) (k : Command) (e : Session) (m s out : List ℕ) where
   pub work-unsound : sound L s ≡ false → respond 6 [] Open e m s out ≡ workIfSound L k e m s out
+  unfolding firstFailed
   work-unsound h = simp h
 
   pub work-sound : sound L s ≡ true → obey L (Requests k) e m s out ≡ workIfSound L k e m s out
+  unfolding firstFailed
   work-sound h = simp h
 
   pub worked : (answer : Received) (session : Session) (after written output : List ℕ) (n : ℕ) → n ≡ requestNumber m → 23 + n ≤ length out
@@ -91,11 +93,7 @@ module _ (L : Limits) (e : Session) (m s out : List ℕ) where
 
   pub list-judged : (k : Command) → bodyOk (Requests k) m ≡ true → workIfSound L k e m s out ≡ judged (typeTest (Asks (Requests k)) L m s) L e m s out
   unfolding firstFailed
-  list-judged k h = simp h (go (sound L s))
-    where
-      go : (b : Bool) → cond b (obey L (Requests k) e m s out) (respond 6 [] Open e m s out) ≡ judged (cond b (passed (Requests k)) (failed 6 Open)) L e m s out
-      go true = refl
-      go false = refl
+  list-judged k h = simp h
 
   pub all-judged : bodyOk DeleteAll m ≡ true → obey L DeleteAll e m s out ≡ judged (typeTest (Asks DeleteAll) L m s) L e m s out
   unfolding firstFailed

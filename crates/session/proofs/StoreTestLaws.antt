@@ -2,7 +2,7 @@
 -- Assumes nothing.
 use mathlib.Core.Path.{_≡_, refl, sym, ap, _∙_, subst}
 use mathlib.Core.Bool.{Bool, true, false, cond}
-use mathlib.Core.List.{List, []}
+use mathlib.Core.List.{List}
 use Prim.Native.Nat.{ℕ, _+_}
 use lib.ListN.{getD}
 use Rattle.octets.specs.Bytes.{splice}
@@ -12,13 +12,12 @@ use Rattle.store.specs.Store.{entries, sound}
 use Rattle.message.specs.declared.Task.{Task}
 use Rattle.message.specs.declared.Task.the-variants.{Requests, DeleteAll, EndOfUpdate}
 use Rattle.message.specs.declared.Kind.{Kind}
-use Rattle.message.specs.declared.Kind.the-variants.{Asks}
 use Rattle.message.specs.Header.{kind}
 use Rattle.message.specs.Body.{requestNumber, requests}
 use Rattle.command.proofs.WorkLaws.{results-length}
 use Rattle.session.specs.declared.Session.{Session}
 use Rattle.session.specs.Sessions.{Open}
-use Rattle.session.specs.Rules.{reply, opened, refused, Outcome, refuse, respond, asksStore, headerTests, transactionTests, Verdict, passed, failed, firstFailed, typeTest, verdict, heard, obey, judged, receive}
+use Rattle.session.specs.Rules.{reply, opened, refused, refuse, respond, asksStore, headerTests, transactionTests, Verdict, passed, failed, firstFailed, typeTest, verdict, heard, obey, judged, receive}
 use Rattle.session.specs.Claims.{Responded, AtStoreTest, SixIsTheStoreTest}
 use Rattle.session.proofs.TestLaws.{tests-pass}
 use Rattle.session.proofs.OutcomeLaws.{tested-receive}

@@ -4,7 +4,6 @@ use mathlib.Core.Path.{_≡_, refl, sym, ap, _∙_, subst}
 use mathlib.Core.Bool.{Bool, true, false, cond}
 use mathlib.Core.List.{List, []}
 use Prim.Native.Nat.{ℕ}
-use native.Mathlib.Omega.{arith}
 use lib.Dec.{eqb, leb}
 use lib.ListN.{length, getD}
 use borrow.Author.Tests.{eqb-true, eqb-false, eq-eqb}
@@ -19,7 +18,7 @@ use Rattle.message.specs.declared.Task.the-variants.{Requests, DeleteAll, EndOf
 use Rattle.message.specs.Header.{transaction}
 use Rattle.session.specs.declared.Session.{Session}
 use Rattle.session.specs.Sessions.{State, Closed, Waiting, Open, stateOf, remembering}
-use Rattle.session.specs.Rules.{Answered, reply, opened, ended, refused, Outcome, refuse, respond, headerTests, allPass, Verdict, passed, failed, verdict, firstFailed, judged, heard, obey, opens, whileWaiting, inState, receiveIn, receive}
+use Rattle.session.specs.Rules.{reply, opened, refused, Outcome, refuse, respond, headerTests, allPass, Verdict, passed, failed, verdict, firstFailed, judged, heard, obey, opens, whileWaiting, inState, receiveIn, receive}
 use Rattle.session.specs.Claims.{Recalls, beside, SameBeside, HeardIsRemembered, NotHeard, OpeningForgets, NoneIsNone, Responded, RepeatedIsTen, TenIsRepeated}
 use Rattle.session.proofs.SessionLaws.{begin-made}
 use Rattle.session.proofs.OutcomeLaws.{transaction-judged, tested-receive}

@@ -2,19 +2,18 @@
 -- Assumes nothing.
 use mathlib.Core.Path.{_≡_}
 use mathlib.Core.Bool.{cond}
-use mathlib.Core.List.{List, []}
+use mathlib.Core.List.{List, [], _∷_}
 use Prim.Native.Nat.{ℕ, _+_, _≤_}
 use lib.Dec.{eqb}
 use lib.ListN.{length}
 use Rattle.octets.specs.Bytes.{splice}
 use Rattle.store.specs.declared.Limits.{Limits}
-use Rattle.store.specs.Store.{sound}
 use Rattle.message.specs.declared.Command.{Command}
 use Rattle.message.specs.declared.Task.the-variants.{Requests}
 use Rattle.session.specs.declared.Session.{Session}
 use Rattle.session.specs.declared.Received.{Received}
 use Rattle.session.specs.Sessions.{State, Closed, Open}
-use Rattle.session.specs.Rules.{Verdict, failed, firstFailed, headerTests, Outcome, refuse, respond, obey, whileWaiting, Does}
+use Rattle.session.specs.Rules.{Verdict, failed, passed, firstFailed, headerTests, storeTest, Outcome, refuse, respond, judged, whileWaiting, Does}
 
 -- r is the RESPONSE of the first header test that fails, 0 where none does
 pub record Faults (e : Session) (m : List ℕ) (r : ℕ) : Type 0 where
@@ -36,6 +35,6 @@ pub record Responds (response : ℕ) (then : State) (e : Session) (m out after :
 pub record Reports (n : ℕ) (e : Session) (m written after : List ℕ) (answer : Received) (session : Session) : Type 0 where
   pub by : (s out rs : List ℕ) → length rs ≡ n → 23 + n ≤ length out → written ≡ splice out 23 rs → Does (respond 0 rs Open e m s out) answer session s after
 
--- the work of a command whose body passed the test, where the store is sound; else RESPONSE 6
+-- a command whose body passed the test: the store test, and the work where it holds
 abbrev pub workIfSound : Limits → Command → Session → List ℕ → List ℕ → List ℕ → Outcome
-workIfSound L k e m s out = cond (sound L s) (obey L (Requests k) e m s out) (respond 6 [] Open e m s out)
+workIfSound L k e m s out = judged (firstFailed (storeTest (Requests k) L s ∷ []) (passed (Requests k))) L e m s out

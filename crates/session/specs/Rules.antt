@@ -87,11 +87,15 @@ asksStore (Requests k) = true
 asksStore DeleteAll = false
 asksStore EndOfUpdate = false
 
+-- the store test
+abbrev pub storeTest : Task → Limits → List ℕ → Test
+storeTest task L s = test (not (asksStore task) || sound L s) 6 Open
+
 -- those after the type
 abbrev pub bodyTests : Task → Limits → List ℕ → List ℕ → List Test
 bodyTests task L m s =
     test (bodyOk task m) 11 Closed
-    ∷ test (not (asksStore task) || sound L s) 6 Open
+    ∷ storeTest task L s
     ∷ []
 
 -- the RESPONSE and the session then, or the task of a message past all tests

@@ -4,10 +4,10 @@ use mathlib.Core.Path.{_≡_, refl, sym, ap, subst, _∙_}
 use mathlib.Core.Bool.{Bool, true, false}
 use mathlib.Core.List.{List, [], _∷_}
 use mathlib.Core.Logic.{_⊎_, inl, inr, ⊎-elim}
-use Prim.Native.Nat.{ℕ, _<_}
+use Prim.Native.Nat.{ℕ, zero, suc, _<_}
 use native.Mathlib.Omega.{arith}
 use lib.Dec.{ltb, eqb}
-use lib.ListN.{length}
+use lib.ListN.{length, take}
 use borrow.Author.Tests.{eq-eqb, ne-eqb, ltb-false, ltb-true}
 use Rattle.octets.proofs.BoolLaws.{between-true, is-between, under, over}
 use Rattle.refusal.specs.House.{house}
@@ -18,7 +18,7 @@ use Rattle.store.specs.declared.Edition.the-variants.{Known, Unknown}
 use Rattle.store.specs.Layout.{edition1, edition2, editionOf}
 use Rattle.store.specs.Store.{encode, entries, sound}
 use Rattle.store.specs.Search.{fits, unfound, findIn, find, emptyIn, emptied}
-use Rattle.store.specs.Request.{work}
+use Rattle.store.specs.Request.{Request, work}
 use Rattle.store.specs.WellFormed.{AllReadable}
 use Rattle.store.specs.Claims.{OneStore, HeaderSays, AcceptedSaysEdition, RequestsKeepSound, BothEndsFit, ReversedNeverFits, OneMomentFits, EndlessFits, placeless, LatestTaken, UnsoundExactly, NoKeyExactly, OrderKeepsEnd, RefusedEmptyWritesNothing, OneAnswer}
 use Rattle.store.proofs.SoundLaws.{Sound, sound-says}
@@ -63,6 +63,12 @@ pub accepted-says-edition : AcceptedSaysEdition
 unfolding find
 accepted-says-edition = record { of-sound = header-says; of-find = λ s peer t f g. found-edition _ s peer t (known-edition _) f g }
 
+first-readable : (n : ℕ) (rs : List Request) → AllReadable rs → AllReadable (take n rs)
+unfolding AllReadable
+first-readable zero rs f = tt
+first-readable (suc n) [] f = tt
+first-readable (suc n) (r ∷ rs) f = (f .0, first-readable n rs (f .1))
+
 pub requests-keep-sound : RequestsKeepSound
 unfolding work AllReadable
 requests-keep-sound =
@@ -71,6 +77,7 @@ requests-keep-sound =
       in-edition-2 = λ own s b h rs f. work-sound edition2 own s b h rs f;
       in-any = λ L own s b h rs f. work-sound L own s b h rs f;
       each = λ L own s b h r f. work-sound L own s b h (r ∷ []) (f, tt);
+      throughout = λ L own s b h rs f n. work-sound L own s b h (take n rs) (first-readable n rs f);
     }
 
 pub both-ends-fit : BothEndsFit

@@ -6,7 +6,7 @@ use mathlib.Core.List.{List}
 use mathlib.Core.Logic.{_⊎_}
 use Prim.Native.Nat.{ℕ, _+_, _-_, _≤_, _<_}
 use lib.Dec.{eqb}
-use lib.ListN.{length, getD}
+use lib.ListN.{length, getD, take}
 use Rattle.octets.specs.Bytes.{Bytes, get16}
 use Rattle.octets.specs.Words.{elem}
 use Rattle.refusal.specs.House.{house}
@@ -39,8 +39,7 @@ pub record AcceptedSaysEdition : Type 0 where
   pub of-sound : (L : Limits) (s : List ℕ) → sound L s ≡ true → HeaderSays L s
   pub of-find : (s : List ℕ) (peer t : ℕ) → (find s peer t ≡ unfound 1 → ⊥) → (find s peer t ≡ unfound 12 → ⊥) → HeaderSays edition1 s ⊎ HeaderSays edition2 s
 
--- change request 9: every request, whatever its RESULT, leaves a sound store sound, over any sequence of requests. The requests before one in a message are such a
--- sequence too: so the store is sound before each request
+-- change request 9: every request, whatever its RESULT, leaves a sound store sound, over any sequence of requests
 abbrev pub KeepsSound : Limits → Type 0
 KeepsSound L = (own : ℕ) (s : List ℕ) → Bytes s → sound L s ≡ true → (rs : List Request) → AllReadable rs → sound L (encode L (work L own rs (entries L s) .left)) ≡ true
 
@@ -51,6 +50,9 @@ pub record RequestsKeepSound : Type 0 where
   pub in-any : (L : Limits) → KeepsSound L
   -- one request
   pub each : (L : Limits) (own : ℕ) (s : List ℕ) → Bytes s → sound L s ≡ true → (r : Request) → Readable r → sound L (encode L (after L own r (entries L s))) ≡ true
+  -- in the middle of a list, after its first n requests
+  pub throughout : (L : Limits) (own : ℕ) (s : List ℕ) → Bytes s → sound L s ≡ true → (rs : List Request) → AllReadable rs → (n : ℕ)
+      → sound L (encode L (work L own (take n rs) (entries L s) .left)) ≡ true
 
 -- change request 4: a period fits exactly from its start to its end, both included
 pub record BothEndsFit : Type 0 where
