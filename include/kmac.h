@@ -220,9 +220,10 @@ int32_t kmac_begin(uint32_t own, uint32_t peer, uint16_t number, uint8_t session
  *
  * They are tested in the order 2, 5, 4, 3, 9, 10, 1, 11, 6. With any RESPONSE but 0 no byte of the store has changed.
  *
- * 6 is told before the first request is worked, never in the middle: every request, whatever its RESULT, leaves a sound
- * store sound. From a sound store no call answers 6 or H12, so that either of them says that something other than these
- * calls has written to the store.
+ * RESPONSE 6 is told before the first request is worked, never in the middle: every request, whatever its RESULT, leaves a
+ * sound store sound. From a sound store no call answers 6 or H12, and every call that ends leaves it sound. So where one of
+ * them is answered, the store was unsound when it was first lent, a call on it was cut off, calls on it ran at the same
+ * time, or something else wrote to it.
  *
  * The message before is the last of this session that passed the tests 2, 5, 4, 3 and 9, whatever it was answered. The
  * first message after the session init has none before it, and zero is a number like another. An end of update with the

@@ -25,6 +25,7 @@ fn size_at(command: Command, m: &[u8], i: usize) -> usize
 {
     match request_size(command, m, i) {
         Sized::Size(size) => size,
+        // Not taken: the body has passed its test.
         Sized::Bad => 0,
     }
 }

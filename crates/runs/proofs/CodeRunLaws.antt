@@ -4,18 +4,21 @@ use mathlib.Core.Path.{_≡_, refl, sym, ap, ap₂, _∙_}
 use mathlib.Core.List.{List, [], _∷_, map}
 use Prim.Native.Nat.{ℕ}
 use lib.ListN.{length}
+use Rattle.store.specs.declared.Limits.{Limits}
+use Rattle.store.specs.Layout.{edition1, edition2}
+use Rattle.store.specs.Store.{sound}
 use Rattle.store.proofs.Theorems as stores
 use Rattle.session.specs.declared.Session.{Session}
 use Rattle.session.specs.Sessions.{Beginning}
 use Rattle.session.specs.Rules.{Answered, receivedAs}
 use Rattle.session.proofs.AnswerLaws as sessions
 use Rattle.runs.specs.Calls.{Call, World, begun, received, searched, replyOf, seen, sessionOf, next, allSeen, final}
-use Rattle.runs.specs.Alike.{AlikeCalls, no-calls, alike-begin, alike-message, alike-search, isSound}
+use Rattle.runs.specs.Alike.{AlikeCalls, no-calls, alike-begin, alike-message, alike-search}
 use Rattle.runs.specs.Tally.{replyIn}
 use Rattle.runs.specs.Secrecy.{Alike}
-use Rattle.runs.specs.CodeRuns.{Handed, by-begin, by-message, by-search, CodeRun, code-ends, code-begin, code-message, code-search, SameHanded, same-none, same-begin, same-message, same-search, seenBy, replyBy, SecrecyOfCalls, NeverSixOfCalls}
-use Rattle.runs.specs.Sound.{noneBlames}
-use Rattle.runs.proofs.Theorem.{secrecy, runs-keep-sound, never-from-sound}
+use Rattle.runs.specs.CodeRuns.{Handed, by-begin, by-message, by-search, CodeRun, code-ends, code-begin, code-message, code-search, SameHanded, same-none, same-begin, same-message, same-search, seenBy, replyBy, SecrecyOfCalls, CodeStaysSound, NeverSixOfCalls}
+use Rattle.runs.specs.Sound.{noneSaysUnsound, StaysSound, NeverSaysUnsound}
+use Rattle.runs.proofs.Theorem.{secrecy, runs-keep-sound, never-six}
 
 -- ---- one run
 
@@ -90,10 +93,16 @@ secrecy-of-calls =
           };
     }
 
+-- ---- the store of one
+
+code-stays-sound : (L : Limits) → NeverSaysUnsound L → StaysSound L → CodeStaysSound L
+code-stays-sound L never stays cs w v hs b h c k =
+    let f = follows k in
+    (ap noneSaysUnsound (f .seen-is) ∙ never cs w b h c, ap (λ (x : World). sound L (x .store)) (f .final-is) ∙ stays cs w b h c)
+
 pub never-six-of-calls : NeverSixOfCalls
 never-six-of-calls =
     record {
-      runs = λ cs w v hs b h c k.
-          let f = follows k in
-          (ap noneBlames (f .seen-is) ∙ never-from-sound cs w b h c, ap (λ (x : World). isSound (x .store)) (f .final-is) ∙ runs-keep-sound .kept cs w b h c);
+      in-edition-1 = code-stays-sound edition1 (never-six .in-edition-1) (runs-keep-sound .in-edition-1);
+      in-edition-2 = code-stays-sound edition2 (never-six .in-edition-2) (runs-keep-sound .in-edition-2);
     }

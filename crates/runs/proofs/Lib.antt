@@ -6,7 +6,7 @@ pub mod BytesLaws
 pub mod StoreLaws
 pub mod TwinLaws
 pub mod StepLaws
-pub mod BlameLaws
+pub mod UnsoundLaws
 pub mod Theorem
 pub mod CodeRunLaws
 pub mod Starred

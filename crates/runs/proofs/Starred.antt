@@ -16,7 +16,7 @@ use Rattle.message.specs.Written.{initOk}
 use Rattle.message.specs.Body.{sizeAt, fieldsOk, requestAt, fieldsFrom, requestsFrom, requests, bodyOk}
 use Rattle.session.specs.Rules.{respond, firstFailed, allPass, verdict, heard, obey, opens, whileWaiting, inState, receiveIn, receive}
 use Rattle.runs.specs.Calls.{brings, searches, seen, next, allSeen}
-use Rattle.runs.specs.Sound.{blames}
+use Rattle.runs.specs.Sound.{saysUnsound}
 use Rattle.runs.specs.Starred.{expecting, adds, headed, hold, starred, larger, transactions}
 
 pub starred-hold : hold starred ≡ true
@@ -32,6 +32,6 @@ unfolding hold transactions same receive receiveIn editionOf editionIn inState w
 transactions-hold = refl
 
 -- with an unsound store an add is answered 6 and a search H12: NeverSix speaks of answers that there are
-pub unsound-blamed : map blames (allSeen (brings (adds (8 ∷ [])) (replicate 1032 0) ∷ searches 8 1 ∷ []) (record { session = expecting 5; store = headed edition2 edition1 })) ≡ true ∷ true ∷ []
+pub unsound-told : map saysUnsound (allSeen (brings (adds (8 ∷ [])) (replicate 1032 0) ∷ searches 8 1 ∷ []) (record { session = expecting 5; store = headed edition2 edition1 })) ≡ true ∷ true ∷ []
 unfolding allSeen seen next receive receiveIn editionOf editionIn inState verdict firstFailed heard allPass obey respond kindOf bodyOk fieldsFrom fieldsOk sizeAt requests requestsFrom requestAt work after result firstReason done placeWhere peersOf encode header keyRecord keyRecords words numbers elem entries entriesFrom sound allHold headerOk countsOk sumsOk sumBefore uniqueOk newKey parityOk allOdd unusedOk allBelow allZero part splice ones find findIn latest
-unsound-blamed = refl
+unsound-told = refl

@@ -4,16 +4,16 @@ use mathlib.Core.Path.{_≡_, refl, sym, ap, _∙_, subst}
 use mathlib.Core.Bool.{Bool, true, false, cond}
 use mathlib.Core.List.{List, []}
 use Prim.Native.Nat.{ℕ, _+_}
-use native.Mathlib.Nat.{not-suc-le-zero}
 use native.Mathlib.Omega.{arith}
 use lib.Dec.{leb}
 use lib.ListN.{length, take}
 use Rattle.octets.specs.Bytes.{splice}
 use Rattle.octets.proofs.SpliceLaws.{splice-front}
 use Rattle.store.specs.declared.Limits.{Limits}
-use Rattle.store.specs.Store.{peersOf, encode, entries}
+use Rattle.store.specs.Store.{encode, entries}
 use Rattle.store.specs.WellFormed.{WellFormed}
 use Rattle.store.specs.Request.{Work, work}
+use Rattle.store.proofs.WellFormedLaws.{none-wellFormed}
 use Rattle.store.proofs.RequestLaws.{work-wellFormed}
 use Rattle.message.specs.declared.Command.{Command}
 use Rattle.message.specs.declared.Task.{Task}
@@ -70,17 +70,6 @@ module _ (L : Limits) (m m' : List ℕ) (ts : List Tag) where
       go true = h
       go false = k
 
-no-entries-wellFormed : (L : Limits) → WellFormed L []
-unfolding peersOf
-no-entries-wellFormed L =
-    record {
-      keys-fit = omega arith;
-      peers-fit = omega arith;
-      fitting = λ i l. absurd (not-suc-le-zero l);
-      odd = λ i l. absurd (not-suc-le-zero l);
-      apart = λ i j l h p q. absurd (not-suc-le-zero h);
-    }
-
 module _ (L : Limits) (m m' : List ℕ) (ts : List Tag) (a : AlikeMessages m m') (s s' out : List ℕ) (v : Twins L ts s s') where
   x : Reading m m'
   x = reading m m' a
@@ -107,7 +96,7 @@ module _ (L : Limits) (m m' : List ℕ) (ts : List Tag) (a : AlikeMessages m m')
   obey-same e (Requests k) h = requests-same e k (h .kind-is) (h .body-ok)
   obey-same e DeleteAll h =
       let W : List ℕ = replyBytes (e .own) (e .peer) (transaction m) (e .next) 0 [] in
-      let g : WellFormed L [] = no-entries-wellFormed L in
+      let g : WellFormed L [] = none-wellFormed L in
       respond-same L m m' ts 0 [] [] Open e (encode L []) (encode L []) out refl (x .transaction-is)
       (subst (λ (j : Kind). Twins L (obeyed j m m' W ts) (encode L []) (encode L [])) (sym (h .kind-is)) (encode-twins L (twins-bounded L v) (total-edition L v) g g no-entries))
   obey-same e EndOfUpdate h = record { answer-is = refl; session-is = refl; output-is = refl; twins = v }

@@ -21,16 +21,16 @@ use Rattle.runs.specs.Calls.{Call, starts, brings, World, Seen, begun, r
 use Rattle.runs.specs.Alike.{AlikeCalls, AlikeStores, no-calls, alike-begin, alike-message, alike-search, soundIn, isSound, heldIn}
 use Rattle.runs.specs.Tally.{Tag, tags, tallyFrom, messageIn, replyIn}
 use Rattle.runs.specs.Secrecy.{Secrecy}
-use Rattle.runs.specs.Sound.{noneBlames, RunsKeepSound, NeverBlamed, NeverSix}
+use Rattle.runs.specs.Sound.{noneSaysUnsound, StaysSound, RunsKeepSound, NeverSaysUnsound, NeverSix}
 use Rattle.runs.proofs.TwinLaws.{Twins, alike-twins, twins-alike, twins-told, twins-equal, find-same, key-size}
 use Rattle.runs.proofs.StepLaws.{SameStep, receive-same}
-use Rattle.runs.proofs.BlameLaws.{begin-blameless, message-blameless, search-blameless}
+use Rattle.runs.proofs.UnsoundLaws.{begin-never, message-never, search-never}
 
 record SameRun (L : Limits) (cs cs' : List Call) (ts : List Tag) (w w' : World) : Type 0 where
   seen-is : allSeen cs w ≡ allSeen cs' w'
   session-is : final cs w .session ≡ final cs' w' .session
   -- of the first run alone
-  blameless : noneBlames (allSeen cs w) ≡ true
+  never-unsound : noneSaysUnsound (allSeen cs w) ≡ true
   twins : Twins L (tallyFrom ts (map messageIn cs) (map messageIn cs') (map replyIn (allSeen cs w))) (final cs w .store) (final cs' w' .store)
 
 -- a call that does not blame the store, in front of others that do not
@@ -39,8 +39,8 @@ one-more a b p q = rw (p, q)
 
 run-same : {cs cs' : List Call} → AlikeCalls cs cs' → (L : Limits) (ts : List Tag) (w w' : World) → w .session ≡ w' .session → Twins L ts (w .store) (w' .store)
     → SameRun L cs cs' ts w w'
-unfolding allSeen final tallyFrom seen next noneBlames
-run-same no-calls L ts w w' q v = record { seen-is = refl; session-is = q; blameless = refl; twins = v }
+unfolding allSeen final tallyFrom seen next noneSaysUnsound
+run-same no-calls L ts w w' q v = record { seen-is = refl; session-is = q; never-unsound = refl; twins = v }
 run-same (alike-begin {cs = cs} {cs' = cs'} own peer start out r) L ts w w' q v =
     let c : Call = starts own peer start out in
     let b : Beginning = begin own peer start out in
@@ -48,7 +48,7 @@ run-same (alike-begin {cs = cs} {cs' = cs'} own peer start out r) L ts w w' q v 
     record {
       seen-is = ap (λ (l : List Seen). begun b (beginOutput b own peer start out) ∷ l) (k .seen-is);
       session-is = k .session-is;
-      blameless = one-more _ _ (begin-blameless own peer start out (beginOutput b own peer start out)) (k .blameless);
+      never-unsound = one-more _ _ (begin-never own peer start out (beginOutput b own peer start out)) (k .never-unsound);
       twins = k .twins;
     }
 run-same (alike-message {cs = cs} {cs' = cs'} m m' out x r) L ts w w' q v =
@@ -63,7 +63,7 @@ run-same (alike-message {cs = cs} {cs' = cs'} m m' out x r) L ts w w' q v =
           ∙ ap (λ (u : List ℕ). received (o' .answer) (replyOf (o' .answer) u) u ∷ allSeen cs (next (brings m out) w)) (t .output-is)
           ∙ ap (λ (l : List Seen). received (o' .answer) (replyOf (o' .answer) (o' .output)) (o' .output) ∷ l) (k .seen-is);
       session-is = k .session-is;
-      blameless = one-more _ _ (message-blameless L (w .store) (v .edition) (v .sound-is) (w .session) m out) (k .blameless);
+      never-unsound = one-more _ _ (message-never L (w .store) (v .edition) (v .sound-is) (w .session) m out) (k .never-unsound);
       twins = k .twins;
     }
 run-same (alike-search {cs = cs} {cs' = cs'} peer t r) L ts w w' q v =
@@ -76,7 +76,7 @@ run-same (alike-search {cs = cs} {cs' = cs'} peer t r) L ts w w' q v =
           ∙ ap (λ (n : ℕ). searched (find s' peer t) n ∷ allSeen cs w) (key-size L v peer t)
           ∙ ap (λ (l : List Seen). searched (find s' peer t) (length (key s' peer t)) ∷ l) (k .seen-is);
       session-is = k .session-is;
-      blameless = one-more _ _ (search-blameless L s (v .edition) (v .sound-is) peer t (length (key s peer t))) (k .blameless);
+      never-unsound = one-more _ _ (search-never L s (v .edition) (v .sound-is) peer t (length (key s peer t))) (k .never-unsound);
       twins = k .twins;
     }
 
@@ -102,23 +102,28 @@ secrecy =
           };
     }
 
--- a run beside itself
-itself : (s : List ℕ) → Bytes s → isSound s ≡ true → AlikeStores s s
-itself s b h = record { bytes = b; bytes' = b; sound = h; sound' = h; differ = record { same-length = refl; same-byte = λ i p. refl } }
+-- ---- one run
+
+-- a run beside itself, from a store that is sound in an edition
+beside-itself : (L : Limits) → editionOf (total L) ≡ Known L → (cs : List Call) (w : World) → Bytes (w .store) → sound L (w .store) ≡ true → AlikeCalls cs cs
+    → SameRun L cs cs (tags (heldIn (w .store)) (heldIn (w .store))) w w
+beside-itself L k cs w b h c =
+    let s = w .store in
+    let d : editionOf (length s) ≡ Known L = ap editionOf (accepted-says-edition .of-sound L s h .2) ∙ k in
+    let i : isSound s ≡ true = ap (λ (E : Edition). soundIn E s) d ∙ h in
+    let a : AlikeStores s s = record { bytes = b; bytes' = b; sound = i; sound' = i; differ = record { same-length = refl; same-byte = λ j p. refl } } in
+    run-same c L _ w w refl (alike-twins L s s a d h)
+
+stays-sound : (L : Limits) → editionOf (total L) ≡ Known L → StaysSound L
+stays-sound L k cs w b h c = beside-itself L k cs w b h c .twins .sound-is
 
 pub runs-keep-sound : RunsKeepSound
-runs-keep-sound = record { kept = λ cs w b h c. secrecy .runs cs cs w w refl (itself (w .store) b h) c .alike-stores .sound }
+unfolding editionOf editionIn
+runs-keep-sound = record { in-edition-1 = stays-sound edition1 refl; in-edition-2 = stays-sound edition2 refl }
 
-pub never-from-sound : (cs : List Call) (w : World) → Bytes (w .store) → isSound (w .store) ≡ true → AlikeCalls cs cs → noneBlames (allSeen cs w) ≡ true
-never-from-sound cs w b h c =
-    let p = sound-edition (editionOf (length (w .store))) (w .store) h in
-    run-same c (p .0) _ w w refl (alike-twins (p .0) (w .store) (w .store) (itself (w .store) b h) (p .1) (p .2)) .blameless
-
-in-edition : (L : Limits) → editionOf (total L) ≡ Known L → NeverBlamed L
-in-edition L k cs w b h c =
-    let d : editionOf (length (w .store)) ≡ Known L = ap editionOf (accepted-says-edition .of-sound L (w .store) h .2) ∙ k in
-    never-from-sound cs w b (ap (λ (E : Edition). soundIn E (w .store)) d ∙ h) c
+never-says-unsound : (L : Limits) → editionOf (total L) ≡ Known L → NeverSaysUnsound L
+never-says-unsound L k cs w b h c = beside-itself L k cs w b h c .never-unsound
 
 pub never-six : NeverSix
 unfolding editionOf editionIn
-never-six = record { in-edition-1 = in-edition edition1 refl; in-edition-2 = in-edition edition2 refl }
+never-six = record { in-edition-1 = never-says-unsound edition1 refl; in-edition-2 = never-says-unsound edition2 refl }

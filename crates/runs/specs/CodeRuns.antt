@@ -6,7 +6,10 @@ use mathlib.Core.Bool.{true}
 use Prim.Native.Nat.{ℕ}
 use lib.ListN.{length}
 use Rattle.octets.specs.Bytes.{Bytes}
+use Rattle.store.specs.declared.Limits.{Limits}
 use Rattle.store.specs.declared.Found.{Found}
+use Rattle.store.specs.Layout.{edition1, edition2}
+use Rattle.store.specs.Store.{sound}
 use Rattle.store.specs.Search.{foundAs, find, key}
 use Rattle.session.specs.declared.Session.{Session}
 use Rattle.session.specs.declared.Begun.{Begun}
@@ -14,10 +17,10 @@ use Rattle.session.specs.declared.Received.{Received}
 use Rattle.session.specs.Sessions.{begunAs, Begins}
 use Rattle.session.specs.Rules.{receivedAs, receive, Does}
 use Rattle.runs.specs.Calls.{Call, starts, brings, searches, World, Seen, begun, received, searched, replyOf, sessionOf}
-use Rattle.runs.specs.Alike.{AlikeCalls, AlikeStores, heldIn, isSound}
+use Rattle.runs.specs.Alike.{AlikeCalls, AlikeStores, heldIn}
 use Rattle.runs.specs.Tally.{Tag, tally, messageIn}
 use Rattle.runs.specs.Secrecy.{Told, noneUnlike}
-use Rattle.runs.specs.Sound.{noneBlames}
+use Rattle.runs.specs.Sound.{noneSaysUnsound}
 
 -- what a call hands back: its answer and, of a begin or a message, the output buffer afterwards; of a search, the part
 pub data Handed : Type 0 where
@@ -83,7 +86,12 @@ pub record SecrecyOfCalls : Type 0 where
 
 -- ---- the store of one
 
--- from a sound store and with any session, no call of a run of the code is answered 6 or H12, and the store that it leaves is sound (document 02, change request 9)
+-- with any session, from a store that is sound in this edition: no call of a run of the code is answered 6 or H12, and the store that it leaves is sound in it
+-- (document 02, change request 9)
+abbrev pub CodeStaysSound : Limits → Type 0
+CodeStaysSound L = (cs : List Call) (w v : World) (hs : List Handed) → Bytes (w .store) → sound L (w .store) ≡ true → AlikeCalls cs cs → CodeRun cs w hs v
+    → (noneSaysUnsound (map seenBy hs) ≡ true) × (sound L (v .store) ≡ true)
+
 pub record NeverSixOfCalls : Type 0 where
-  pub runs : (cs : List Call) (w v : World) (hs : List Handed) → Bytes (w .store) → isSound (w .store) ≡ true → AlikeCalls cs cs → CodeRun cs w hs v
-      → (noneBlames (map seenBy hs) ≡ true) × (isSound (v .store) ≡ true)
+  pub in-edition-1 : CodeStaysSound edition1
+  pub in-edition-2 : CodeStaysSound edition2

@@ -13,33 +13,37 @@ use Rattle.store.specs.Search.{found, unfound}
 use Rattle.session.specs.Sessions.{begins, refuses}
 use Rattle.session.specs.Rules.{reply, opened, ended, refused}
 use Rattle.runs.specs.Calls.{Call, World, Seen, begun, received, searched, allSeen, final}
-use Rattle.runs.specs.Alike.{AlikeCalls, isSound}
+use Rattle.runs.specs.Alike.{AlikeCalls}
 
 -- the answer says that the store is unsound: RESPONSE 6 in a reply of type 11, or the refusal H12
-abbrev pub blames : Seen → Bool
-blames (begun (begins e n) out) = false
-blames (begun (refuses n) out) = eqb n 12
-blames (received (reply n) bytes out) = eqb (getD bytes 19 0) 11 && eqb (getD bytes 20 0) 6
-blames (received opened bytes out) = false
-blames (received ended bytes out) = false
-blames (received (refused n) bytes out) = eqb n 12
-blames (searched (found place end) size) = false
-blames (searched (unfound n) size) = eqb n 12
+abbrev pub saysUnsound : Seen → Bool
+saysUnsound (begun (begins e n) out) = false
+saysUnsound (begun (refuses n) out) = eqb n 12
+saysUnsound (received (reply n) bytes out) = eqb (getD bytes 19 0) 11 && eqb (getD bytes 20 0) 6
+saysUnsound (received opened bytes out) = false
+saysUnsound (received ended bytes out) = false
+saysUnsound (received (refused n) bytes out) = eqb n 12
+saysUnsound (searched (found place end) size) = false
+saysUnsound (searched (unfound n) size) = eqb n 12
 
-unfoldable pub noneBlames : List Seen → Bool
-noneBlames [] = true
-noneBlames (o ∷ os) = not (blames o) && noneBlames os
+unfoldable pub noneSaysUnsound : List Seen → Bool
+noneSaysUnsound [] = true
+noneSaysUnsound (o ∷ os) = not (saysUnsound o) && noneSaysUnsound os
 
--- a list of calls is alike to itself where its messages are bytes
+-- Any list of calls, with any session, from a store that is sound in this edition. `AlikeCalls cs cs` says that every message of the list is bytes.
 
--- a run from a sound store ends with a sound store
+-- the run ends with a store that is sound in it
+abbrev pub StaysSound : Limits → Type 0
+StaysSound L = (cs : List Call) (w : World) → Bytes (w .store) → sound L (w .store) ≡ true → AlikeCalls cs cs → sound L (final cs w .store) ≡ true
+
 pub record RunsKeepSound : Type 0 where
-  pub kept : (cs : List Call) (w : World) → Bytes (w .store) → isSound (w .store) ≡ true → AlikeCalls cs cs → isSound (final cs w .store) ≡ true
+  pub in-edition-1 : StaysSound edition1
+  pub in-edition-2 : StaysSound edition2
 
--- and no call of it is answered 6 or H12, whatever the session
-abbrev pub NeverBlamed : Limits → Type 0
-NeverBlamed L = (cs : List Call) (w : World) → Bytes (w .store) → sound L (w .store) ≡ true → AlikeCalls cs cs → noneBlames (allSeen cs w) ≡ true
+-- no call of the run is answered 6 or H12
+abbrev pub NeverSaysUnsound : Limits → Type 0
+NeverSaysUnsound L = (cs : List Call) (w : World) → Bytes (w .store) → sound L (w .store) ≡ true → AlikeCalls cs cs → noneSaysUnsound (allSeen cs w) ≡ true
 
 pub record NeverSix : Type 0 where
-  pub in-edition-1 : NeverBlamed edition1
-  pub in-edition-2 : NeverBlamed edition2
+  pub in-edition-1 : NeverSaysUnsound edition1
+  pub in-edition-2 : NeverSaysUnsound edition2

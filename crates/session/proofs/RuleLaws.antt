@@ -24,7 +24,7 @@ use Rattle.message.specs.Body.{bodyOk}
 use Rattle.session.specs.declared.Session.{Session}
 use Rattle.session.specs.Sessions.{State, Closed, Waiting, Open, stateOf, closing, opening}
 use Rattle.session.specs.Rules.{Answered, reply, ended, opened, refused, Outcome, refuse, respond, Test, test, lengthOk, headerTests, repeats, transactionTests, asksStore, bodyTests, Verdict, failed, passed, firstFailed, allPass, typeTest, verdict, heard, obey, judged, opens, whileWaiting, inState, receiveIn, receive}
-use Rattle.session.specs.Claims.{Tested, Responded, AtStoreTest}
+use Rattle.session.specs.Claims.{Tested, HasResponse, AtStoreTest}
 
 -- ---- answers
 
@@ -39,9 +39,9 @@ pub apart : (a b : Answered) → eqb (rank a) (rank b) ≡ false → a ≡ b →
 apart a b h q = eqb-false (rank a) (rank b) h (ap rank q)
 
 -- the reply to a test that fails
-pub told : (response : ℕ) (then : State) (e : Session) (m s out : List ℕ) → Responded response 0 then (respond response [] then e m s out)
+pub has-response : (response : ℕ) (then : State) (e : Session) (m s out : List ℕ) → HasResponse response 0 then (respond response [] then e m s out)
 unfolding respond splice
-told response then e m s out = record { answer-is = refl; type-is = refl; response-is = refl; state-is = refl }
+has-response response then e m s out = record { answer-is = refl; type-is = refl; response-is = refl; state-is = refl }
 
 -- a message past all tests is answered with a reply or ended
 pub obeyed-apart : (e : Session) (m s out : List ℕ) (L : Limits) (task : Task) (b : Answered) → eqb 0 (rank b) ≡ false → eqb 1 (rank b) ≡ false → obey L task e m s out .answer ≡ b → ⊥

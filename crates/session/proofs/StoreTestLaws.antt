@@ -18,10 +18,10 @@ use Rattle.command.proofs.WorkLaws.{results-length}
 use Rattle.session.specs.declared.Session.{Session}
 use Rattle.session.specs.Sessions.{Open}
 use Rattle.session.specs.Rules.{reply, opened, refused, refuse, respond, asksStore, headerTests, transactionTests, Verdict, passed, failed, firstFailed, typeTest, verdict, heard, obey, judged, receive}
-use Rattle.session.specs.Claims.{Responded, AtStoreTest, SixIsTheStoreTest}
+use Rattle.session.specs.Claims.{HasResponse, AtStoreTest, SixIsTheStoreTest}
 use Rattle.session.proofs.TestLaws.{tests-pass}
 use Rattle.session.proofs.OutcomeLaws.{tested-receive}
-use Rattle.session.proofs.RuleLaws.{apart, told, obeyed-zero, verdict-six, receive-ends}
+use Rattle.session.proofs.RuleLaws.{apart, has-response, obeyed-zero, verdict-six, receive-ends}
 
 module _ (L : Limits) (e : Session) (m s out : List ℕ) (a : AtStoreTest L e m s out) where
   -- what the store test decides
@@ -37,7 +37,7 @@ module _ (L : Limits) (e : Session) (m s out : List ℕ) (a : AtStoreTest L e m 
   at-receive v q = ap (λ (w : Verdict). judged w L (heard e m) m s out) (sym q) ∙ tested-receive L e m s out (a .tested)
 
 -- the work of a task that asks the store
-worked-told : (L : Limits) (task : Task) → asksStore task ≡ true → (e : Session) (m s out : List ℕ) → Responded 0 (requestNumber m) Open (obey L task e m s out)
+worked-told : (L : Limits) (task : Task) → asksStore task ≡ true → (e : Session) (m s out : List ℕ) → HasResponse 0 (requestNumber m) Open (obey L task e m s out)
 unfolding respond obey splice requests
 worked-told L (Requests k) h e m s out =
     record {
@@ -59,7 +59,7 @@ six-is-the-store-test =
           (λ L t response then v q y z. let p = verdict-six L e m s out t then (v ∙ ap (λ (r : ℕ). failed r then) z) in (L, p .0, p .1))
           (λ L t task v q y z. absurd (obeyed-zero (heard e m) m s out L task n 5 q z));
       unsound = λ L e m s out a h.
-          subst (λ o. Responded 6 0 Open o × (o .store ≡ s)) (at-receive L e m s out a (failed 6 Open) (at-verdict L e m s out a false h)) (told 6 Open (heard e m) m s out, refl);
+          subst (λ o. HasResponse 6 0 Open o × (o .store ≡ s)) (at-receive L e m s out a (failed 6 Open) (at-verdict L e m s out a false h)) (has-response 6 Open (heard e m) m s out, refl);
       is-sound = λ L e m s out a h.
-          subst (Responded 0 (requestNumber m) Open) (at-receive L e m s out a (passed (a .task)) (at-verdict L e m s out a true h)) (worked-told L (a .task) (a .asks) (heard e m) m s out);
+          subst (HasResponse 0 (requestNumber m) Open) (at-receive L e m s out a (passed (a .task)) (at-verdict L e m s out a true h)) (worked-told L (a .task) (a .asks) (heard e m) m s out);
     }

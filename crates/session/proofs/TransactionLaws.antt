@@ -19,11 +19,11 @@ use Rattle.message.specs.Header.{transaction}
 use Rattle.session.specs.declared.Session.{Session}
 use Rattle.session.specs.Sessions.{State, Closed, Waiting, Open, stateOf, remembering}
 use Rattle.session.specs.Rules.{reply, opened, refused, Outcome, refuse, respond, headerTests, allPass, Verdict, passed, failed, verdict, firstFailed, judged, heard, obey, opens, whileWaiting, inState, receiveIn, receive}
-use Rattle.session.specs.Claims.{Recalls, beside, SameBeside, HeardIsRemembered, NotHeard, OpeningForgets, NoneIsNone, Responded, RepeatedIsTen, TenIsRepeated}
+use Rattle.session.specs.Claims.{Recalls, beside, SameBeside, HeardIsRemembered, NotHeard, OpeningForgets, NoneIsNone, HasResponse, RepeatedIsTen, TenIsRepeated}
 use Rattle.session.proofs.SessionLaws.{begin-made}
 use Rattle.session.proofs.OutcomeLaws.{transaction-judged, tested-receive}
 use Rattle.session.proofs.TestLaws.{heard-old, heard-new}
-use Rattle.session.proofs.RuleLaws.{apart, told, obeyed-apart, obeyed-zero, verdict-ten, receive-ends}
+use Rattle.session.proofs.RuleLaws.{apart, has-response, obeyed-apart, obeyed-zero, verdict-ten, receive-ends}
 use Rattle.session.proofs.Theorems.{refusal-leaves-session}
 
 -- ---- what a session remembers
@@ -154,8 +154,8 @@ repeated-is-ten =
           let r = subst (Recalls true (transaction m)) (sym q) (heard-is-remembered .recalled e m s out h f g) in
           let both = and-both (e' .remembered) (eqb (transaction m') (e' .transaction)) (r .remembered-is) (eq-eqb (transaction m') (e' .transaction) (n ∙ sym (r .number-is))) in
           let d = remembering e' (transaction m') in
-          subst (λ o. Responded 10 0 Closed o × (o .store ≡ s')) (transaction-judged L e' m' s' out' h' d refl true both ∙ tested-receive L e' m' s' out' t)
-          (told 10 Closed d m' s' out', refl);
+          subst (λ o. HasResponse 10 0 Closed o × (o .store ≡ s')) (transaction-judged L e' m' s' out' h' d refl true both ∙ tested-receive L e' m' s' out' t)
+          (has-response 10 Closed d m' s' out', refl);
     }
 
 pub ten-is-repeated : TenIsRepeated

@@ -66,7 +66,7 @@ pub record Tested (L : Limits) (e : Session) (m s out : List ℕ) : Type 0 where
   pub whole-header : 20 ≤ length m
 
 -- a reply of type 11 with this RESPONSE and so many RESULTs; the session is then in this state
-pub record Responded (response results : ℕ) (then : State) (o : Outcome) : Type 0 where
+pub record HasResponse (response results : ℕ) (then : State) (o : Outcome) : Type 0 where
   pub answer-is : o .answer ≡ reply (23 + results)
   pub type-is : getD (o .output) 19 0 ≡ 11
   pub response-is : getD (o .output) 20 0 ≡ response
@@ -115,7 +115,7 @@ pub record NoneIsNone : Type 0 where
 pub record RepeatedIsTen : Type 0 where
   pub second : (e : Session) (m s out : List ℕ) → allPass (headerTests e m) ≡ true → ((n : ℕ) → receive e m s out .answer ≡ refused n → ⊥)
       → (receive e m s out .answer ≡ opened → ⊥) → (e' : Session) → e' ≡ receive e m s out .session → (L : Limits) (m' s' out' : List ℕ) → Tested L e' m' s' out'
-      → allPass (headerTests e' m') ≡ true → transaction m' ≡ transaction m → Responded 10 0 Closed (receive e' m' s' out') × (receive e' m' s' out' .store ≡ s')
+      → allPass (headerTests e' m') ≡ true → transaction m' ≡ transaction m → HasResponse 10 0 Closed (receive e' m' s' out') × (receive e' m' s' out' .store ≡ s')
 
 -- and no other is: RESPONSE 10 says that the message is past the header tests, that a number was remembered, and that the message has it
 pub record TenIsRepeated : Type 0 where
@@ -140,6 +140,6 @@ pub record SixIsTheStoreTest : Type 0 where
   pub only : (e : Session) (m s out : List ℕ) (n : ℕ) → receive e m s out .answer ≡ reply n → getD (receive e m s out .output) 19 0 ≡ 11
       → getD (receive e m s out .output) 20 0 ≡ 6 → (L : Limits) × AtStoreTest L e m s out × (sound L s ≡ false)
   pub unsound : (L : Limits) (e : Session) (m s out : List ℕ) → AtStoreTest L e m s out → sound L s ≡ false
-      → Responded 6 0 Open (receive e m s out) × (receive e m s out .store ≡ s)
+      → HasResponse 6 0 Open (receive e m s out) × (receive e m s out .store ≡ s)
   pub is-sound : (L : Limits) (e : Session) (m s out : List ℕ) → AtStoreTest L e m s out → sound L s ≡ true
-      → Responded 0 (requestNumber m) Open (receive e m s out)
+      → HasResponse 0 (requestNumber m) Open (receive e m s out)

@@ -302,7 +302,7 @@ impl Session {
         ensures { λ r. ⌜ Does (obey lim Task.DeleteAll self (now (m .entry)) (now (s .entry)) (now (out .entry))) (r .answer) (r .session) (now (s .exit)) (now (out .exit)) ⌝ }
     {
         write_empty(s, lim);
-        self.keep_with(Session::DONE, m, out)
+        self.report(0, m, out)
     }
 
     // A message of one of the six types whose header is right.

@@ -43,8 +43,8 @@ module _ (L : Limits) (s : List ℕ) (peer t : ℕ) (known : editionOf (length s
   in-sound h = in-edition ∙ rw h
 
   -- H12 is that of an unsound store
-  pub blamed-unsound : find s peer t ≡ unfound 12 → sound L s ≡ false
-  blamed-unsound q = go (sound L s) refl
+  pub twelve-unsound : find s peer t ≡ unfound 12 → sound L s ≡ false
+  twelve-unsound q = go (sound L s) refl
     where
       not-placed : (b : Bool) → orElse b 11 (found (suc (choice .place)) (choice .end)) ≡ unfound 12 → ⊥
       not-placed true z = not-found 12 (suc (choice .place)) (choice .end) (sym z)

@@ -23,9 +23,9 @@ use Rattle.store.specs.WellFormed.{AllReadable}
 use Rattle.store.specs.Claims.{OneStore, HeaderSays, AcceptedSaysEdition, RequestsKeepSound, BothEndsFit, ReversedNeverFits, OneMomentFits, EndlessFits, placeless, LatestTaken, UnsoundExactly, NoKeyExactly, OrderKeepsEnd, RefusedEmptyWritesNothing, OneAnswer}
 use Rattle.store.proofs.SoundLaws.{Sound, sound-says}
 use Rattle.store.proofs.SearchLaws.{known-edition, find-unsound}
-use Rattle.store.proofs.FindLaws.{in-sound, blamed-unsound, found-taken, one-found, none-there, none-found, same-taken}
+use Rattle.store.proofs.FindLaws.{in-sound, twelve-unsound, found-taken, one-found, none-there, none-found, same-taken}
 use Rattle.store.proofs.DecodeLaws.{encode-entries}
-use Rattle.store.proofs.WellFormedLaws.{sound-wellFormed}
+use Rattle.store.proofs.WellFormedLaws.{none-wellFormed, sound-wellFormed}
 use Rattle.store.proofs.EncodeLaws.{entries-encode, encode-sound, one-list}
 use Rattle.store.proofs.RequestLaws.{work-sound}
 use Rattle.store.proofs.AnswerLaws.{found-one, emptied-one}
@@ -78,6 +78,7 @@ requests-keep-sound =
       in-any = λ L own s b h rs f. work-sound L own s b h rs f;
       each = λ L own s b h r f. work-sound L own s b h (r ∷ []) (f, tt);
       throughout = λ L own s b h rs f n. work-sound L own s b h (take n rs) (first-readable n rs f);
+      delete-all = λ L b. encode-sound L [] b (none-wellFormed L);
     }
 
 pub both-ends-fit : BothEndsFit
@@ -107,19 +108,19 @@ endless-fits = record { always = λ start t h k. is-between start 0xffffffff t h
 pub latest-taken : LatestTaken
 latest-taken = record { taken = found-taken; one-found = one-found }
 
-blamed-edition : (E : Edition) (s : List ℕ) (peer t : ℕ) → editionOf (length s) ≡ E → find s peer t ≡ unfound 12 → (L : Limits) × (E ≡ Known L) × (sound L s ≡ false)
+twelve-edition : (E : Edition) (s : List ℕ) (peer t : ℕ) → editionOf (length s) ≡ E → find s peer t ≡ unfound 12 → (L : Limits) × (E ≡ Known L) × (sound L s ≡ false)
 unfolding find findIn
-blamed-edition Unknown s peer t d q =
+twelve-edition Unknown s peer t d q =
     let z : unfound 1 ≡ unfound 12 = ap (λ (E : Edition). findIn E s peer t) (sym d) ∙ q in
     let y : _≡_ {A = ℕ} 1 12 = cc in
     absurd (omega arith)
-blamed-edition (Known L) s peer t d q = (L, refl, blamed-unsound L s peer t d q)
+twelve-edition (Known L) s peer t d q = (L, refl, twelve-unsound L s peer t d q)
 
 pub unsound-exactly : UnsoundExactly
 unfolding find
 unsound-exactly =
     record {
-      only = λ s peer t q. blamed-edition (editionOf (length s)) s peer t refl q;
+      only = λ s peer t q. twelve-edition (editionOf (length s)) s peer t refl q;
       unsound = λ L s peer t d h. ap (λ (E : Edition). findIn E s peer t) d ∙ find-unsound L s peer t h;
     }
 

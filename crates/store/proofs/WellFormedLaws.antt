@@ -130,6 +130,17 @@ removeAt-peers (suc i) (e ∷ es) =
     let r : length (peersOf (removeAt i es)) ≤ length (peersOf es) = removeAt-peers i es in
     omega (arith, length-append (e .peers) (peersOf (removeAt i es)), length-append (e .peers) (peersOf es))
 
+pub none-wellFormed : (L : Limits) → WellFormed L []
+unfolding peersOf
+none-wellFormed L =
+    record {
+      keys-fit = omega arith;
+      peers-fit = omega arith;
+      fitting = λ i l. absurd (not-suc-le-zero l);
+      odd = λ i l. absurd (not-suc-le-zero l);
+      apart = λ i j l h p q. absurd (not-suc-le-zero h);
+    }
+
 pub removeAt-wellFormed : (L : Limits) (es : List Entry) (i : ℕ) → WellFormed L es → WellFormed L (removeAt i es)
 removeAt-wellFormed L es i g =
     let kf : length es ≤ L .keys = g .keys-fit in

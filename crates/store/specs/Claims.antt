@@ -2,7 +2,7 @@
 -- Assumes nothing.
 use mathlib.Core.Path.{_≡_}
 use mathlib.Core.Bool.{true, false}
-use mathlib.Core.List.{List}
+use mathlib.Core.List.{List, []}
 use mathlib.Core.Logic.{_⊎_}
 use Prim.Native.Nat.{ℕ, _+_, _-_, _≤_, _<_}
 use lib.Dec.{eqb}
@@ -48,11 +48,12 @@ pub record RequestsKeepSound : Type 0 where
   pub in-edition-1 : KeepsSound edition1
   pub in-edition-2 : KeepsSound edition2
   pub in-any : (L : Limits) → KeepsSound L
-  -- one request
+  -- as cases of it: one request, and in the middle of a list, after its first n requests
   pub each : (L : Limits) (own : ℕ) (s : List ℕ) → Bytes s → sound L s ≡ true → (r : Request) → Readable r → sound L (encode L (after L own r (entries L s))) ≡ true
-  -- in the middle of a list, after its first n requests
   pub throughout : (L : Limits) (own : ℕ) (s : List ℕ) → Bytes s → sound L s ≡ true → (rs : List Request) → AllReadable rs → (n : ℕ)
       → sound L (encode L (work L own (take n rs) (entries L s) .left)) ≡ true
+  -- and delete all, which is no request of a list, leaves a sound store whatever it held
+  pub delete-all : (L : Limits) → Bounded L → sound L (encode L []) ≡ true
 
 -- change request 4: a period fits exactly from its start to its end, both included
 pub record BothEndsFit : Type 0 where

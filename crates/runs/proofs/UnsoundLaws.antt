@@ -23,14 +23,14 @@ use Rattle.session.proofs.RuleLaws.{apart, obeyed-apart, receive-ends}
 use Rattle.session.proofs.Theorems.{reply-length}
 use Rattle.session.proofs.StoreTestLaws.{six-is-the-store-test}
 use Rattle.runs.specs.Calls.{begun, received, searched, replyOf}
-use Rattle.runs.specs.Sound.{blames}
+use Rattle.runs.specs.Sound.{saysUnsound}
 
 -- a begin refuses H2 and H6 alone
-pub begin-blameless : (own peer start : ℕ) (out after : List ℕ) → blames (begun (begin own peer start out) after) ≡ false
+pub begin-never : (own peer start : ℕ) (out after : List ℕ) → saysUnsound (begun (begin own peer start out) after) ≡ false
 unfolding begin
-begin-blameless own peer start out after = go (leb 1032 (length out)) (not (eqb own peer)) _
+begin-never own peer start out after = go (leb 1032 (length out)) (not (eqb own peer)) _
   where
-    go : (a b : Bool) (e : Session) → blames (begun (orRefuse a 2 (orRefuse b 6 (begins e 23))) after) ≡ false
+    go : (a b : Bool) (e : Session) → saysUnsound (begun (orRefuse a 2 (orRefuse b 6 (begins e 23))) after) ≡ false
     go true true e = refl
     go true false e = refl
     go false b e = refl
@@ -48,9 +48,9 @@ module _ (L : Limits) (s : List ℕ) (d : editionOf (length s) ≡ Known L) (h :
   not-unsound : {A : Type 0} (M : Limits) → editionOf (length s) ≡ Known M → sound M s ≡ false → A
   not-unsound M k u = let j : M ≡ L = cc in clash (sound L s) h (ap (λ (N : Limits). sound N s) (sym j) ∙ u)
 
-  pub message-blameless : (e : Session) (m out : List ℕ)
-      → let o = receive e m s out in blames (received (o .answer) (replyOf (o .answer) (o .output)) (o .output)) ≡ false
-  message-blameless e m out = go (receive e m s out .answer) refl
+  pub message-never : (e : Session) (m out : List ℕ)
+      → let o = receive e m s out in saysUnsound (received (o .answer) (replyOf (o .answer) (o .output)) (o .output)) ≡ false
+  message-never e m out = go (receive e m s out .answer) refl
     where
       o : List ℕ
       o = receive e m s out .output
@@ -66,19 +66,19 @@ module _ (L : Limits) (s : List ℕ) (d : editionOf (length s) ≡ Known L) (h :
           not-unsound (p .0) (p .1 .tested .edition-is) (p .2)
       six n q false z = refl
 
-      go : (a : Answered) → receive e m s out .answer ≡ a → blames (received a (replyOf a o) o) ≡ false
+      go : (a : Answered) → receive e m s out .answer ≡ a → saysUnsound (received a (replyOf a o) o) ≡ false
       go (reply n) q = six n q (eqb (getD (take n o) 19 0) 11 && eqb (getD (take n o) 20 0) 6) refl
       go opened q = refl
       go ended q = refl
       go (refused n) q = let few = refused-few e m s out n q in ne-eqb n 12 (λ z. omega arith)
 
-  pub search-blameless : (peer t size : ℕ) → blames (searched (find s peer t) size) ≡ false
-  search-blameless peer t size = go (find s peer t) refl
+  pub search-never : (peer t size : ℕ) → saysUnsound (searched (find s peer t) size) ≡ false
+  search-never peer t size = go (find s peer t) refl
     where
       twelve : (n : ℕ) → find s peer t ≡ unfound n → (b : Bool) → eqb n 12 ≡ b → b ≡ false
       twelve n q true z = let p = unsound-exactly .only s peer t (q ∙ ap unfound (eqb-true n 12 z)) in not-unsound (p .0) (p .1) (p .2)
       twelve n q false z = refl
 
-      go : (f : Finding) → find s peer t ≡ f → blames (searched f size) ≡ false
+      go : (f : Finding) → find s peer t ≡ f → saysUnsound (searched f size) ≡ false
       go (found p end) q = refl
       go (unfound n) q = twelve n q (eqb n 12) refl
