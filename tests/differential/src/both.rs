@@ -4,12 +4,13 @@ use reference::refusal::H5;
 
 use crate::chain::Chain;
 use crate::compare::{buffers, numbers, Compared, Difference};
-use crate::coverage::{Call, Coverage};
+use crate::coverage::{Call, Coverage, Mark};
 use crate::layout::KEYS_AT;
 use crate::library::{EndBytes, Library, SessionBytes, NUMBER_AT, REMEMBERED_AT, UNUSED_AT};
 use crate::model;
 use crate::random::Random;
 use crate::repeated::{begun_keeps_the_rule, Exchange};
+use crate::unsound::{search_keeps_the_rule, Judge, Verdict};
 use crate::wire::RESPONSE_AT;
 
 /// A failed call.
@@ -33,6 +34,7 @@ pub struct Both {
     pub calls: u64,
     pub seen: Coverage,
     chain: Chain,
+    judge: Judge,
 }
 
 impl Both {
@@ -42,6 +44,7 @@ impl Both {
             calls: 0,
             seen: Coverage::default(),
             chain: Chain::default(),
+            judge: Judge::default(),
         }
     }
 
@@ -111,6 +114,9 @@ impl Both {
             out,
             after,
         };
+        let got_exchange = exchange(&got_out, &got_world.session);
+        let stores = [&before.store[..], &got_world.store];
+        let judged = self.judge.message(got_exchange, stores);
         let call = || receive_call(&before, message, out.len());
         named(call, || {
             numbers("answer", answer.into(), got?.into())?;
@@ -118,13 +124,14 @@ impl Both {
             buffers("store", &world.store, &got_world.store)?;
             buffers("output", &written, &got_out)?;
             demand_1(&before, &got_world, answer, out, &got_out)?;
-            exchange(&got_out, &got_world.session).keeps_the_rule()
+            judged.exchange.keeps_the_rule()?;
+            judged.keeps_the_rule()?;
+            judged.asks_store_last(&mut self.library, out)
         })?;
         self.seen.received(&before.store, message, answer, &written);
-        let marks = self
-            .chain
-            .received(&exchange(&written, &world.session), &before.store);
-        for mark in marks {
+        let exchange = exchange(&written, &world.session);
+        let repeated = self.chain.received(&exchange, &before.store);
+        for mark in repeated.into_iter().chain(judged.marks()) {
             self.seen.see(&before.store, mark);
         }
         written.truncate(usize::try_from(answer).unwrap_or(0));
@@ -138,14 +145,19 @@ impl Both {
         let before = before_search(peer, t, end.unwrap_or_default());
         let mut got_end = before;
         let got = self.library.find(store, peer, t, &mut got_end);
+        let verdict = self.judge.verdict(store);
         let call = || find_call(store, peer, t);
         named(call, || {
             let got = got?;
             demand_1_of_search(got, &before, &got_end)?;
             numbers("answer", answer.into(), got.into())?;
-            buffers("end", &end.unwrap_or(before), &got_end)
+            buffers("end", &end.unwrap_or(before), &got_end)?;
+            search_keeps_the_rule(verdict, got)
         })?;
         self.seen.found(store, peer, t, answer);
+        if let Verdict::Unsound(Some(only)) = verdict {
+            self.seen.see(store, Mark::Broken(Call::Find, only));
+        }
         Ok((answer, got_end))
     }
 

@@ -11,7 +11,11 @@ use reference::store::{Edition, EDITIONS};
 
 use crate::layout::{fits, has_other_header, held, period};
 use crate::repeated::BEFORE_REPEATED;
+use crate::unsound::{Condition, CONDITIONS, WITH_REQUESTS};
 use crate::wire::{RESPONSE_AT, RESULTS_AT, TYPE_AT};
+
+/// The RESULTs of a request that leaves the store.
+const NOT_DONE: [u8; 6] = [1, 2, 3, 4, 5, 255];
 
 #[derive(Clone, Copy, PartialEq, Eq, PartialOrd, Ord, Debug)]
 pub enum Call {
@@ -38,6 +42,18 @@ pub enum Mark {
     Result(u8, u8),
     /// RESPONSE 6 or H12 for a store with the header of the edition that its length is not of.
     HeaderOfOther(Call),
+    /// RESPONSE 6 or H12 for a store in which this condition alone is broken.
+    Broken(Call, Condition),
+    /// RESPONSE 6 to a message of this type.
+    Unsound(u8),
+    /// This RESPONSE, which is not 6, over an unsound store.
+    OverUnsound(u8),
+    /// End of update over an unsound store.
+    EndedOverUnsound,
+    /// This RESULT, which is not 0, behind a RESULT 0 of the same reply.
+    BehindDone(u8),
+    /// It before a RESULT 0 of the same reply.
+    BeforeDone(u8),
     /// A search that found a record at its end, which is after its start.
     FoundAtEnd,
     /// A search that found a record at its one moment, start and end.
@@ -88,6 +104,12 @@ impl fmt::Display for Mark {
             Mark::Response(response) => write!(f, "RESPONSE {response}"),
             Mark::Result(kind, result) => write!(f, "RESULT {result} of type {kind}"),
             Mark::HeaderOfOther(call) => write!(f, "{call:?} with the other header"),
+            Mark::Broken(call, condition) => write!(f, "{call:?} with {condition:?} broken"),
+            Mark::Unsound(kind) => write!(f, "RESPONSE 6 to type {kind}"),
+            Mark::OverUnsound(response) => write!(f, "RESPONSE {response} over an unsound store"),
+            Mark::EndedOverUnsound => write!(f, "session ended over an unsound store"),
+            Mark::BehindDone(result) => write!(f, "RESULT {result} behind 0"),
+            Mark::BeforeDone(result) => write!(f, "RESULT {result} before 0"),
             Mark::FoundAtEnd => write!(f, "record found at its end"),
             Mark::FoundAtOneMoment => write!(f, "record found at its one moment"),
             Mark::FoundBehindEarlier => write!(f, "record found behind one that ends earlier"),
@@ -213,8 +235,12 @@ impl Coverage {
         if response == UNRECOVERABLE_DATABASE && has_other_header(store) {
             self.see(store, Mark::HeaderOfOther(Call::Receive));
         }
-        for &result in out.get(RESULTS_AT..length).unwrap_or_default() {
+        let results = out.get(RESULTS_AT..length).unwrap_or_default();
+        for &result in results {
             self.see(store, Mark::Result(kind, result));
+        }
+        for mark in mixed(results) {
+            self.see(store, mark);
         }
     }
 
@@ -242,6 +268,24 @@ impl Coverage {
         });
         format!("all {} answers seen, the rarest {rarest}", required.len())
     }
+}
+
+/// Which RESULTs stand behind a RESULT 0, and which before one.
+fn mixed(results: &[u8]) -> Vec<Mark> {
+    let first = |result| results.iter().position(|&other| other == result);
+    let last = |result| results.iter().rposition(|&other| other == result);
+    let (Some(first_done), Some(last_done)) = (first(0), last(0)) else {
+        return Vec::new();
+    };
+    let behind = NOT_DONE
+        .into_iter()
+        .filter(|&result| last(result) > Some(first_done));
+    let is_before = |&result: &u8| first(result).is_some_and(|place| place < last_done);
+    let before = NOT_DONE.into_iter().filter(is_before);
+    behind
+        .map(Mark::BehindDone)
+        .chain(before.map(Mark::BeforeDone))
+        .collect()
 }
 
 fn without_store(marks: Vec<Mark>) -> Vec<Seen> {
@@ -286,6 +330,9 @@ fn of_sound_stores() -> Vec<Seen> {
         results(kind::DELETE_KEYS, &[0, 1]),
         results(kind::UPDATE_KEY_VALIDITIES, &[0, 1]),
         results(kind::UPDATE_KEY_ENTITIES, &[0, 1, 255]),
+        NOT_DONE.map(Mark::BehindDone).to_vec(),
+        // No add of one message makes room for another key: there 2 comes before no 0.
+        [1, 3, 4, 5, 255].map(Mark::BeforeDone).to_vec(),
     ];
     [
         without_store(answers(Call::Begin, &[2, 6])),
@@ -333,6 +380,17 @@ pub fn of_sessions() -> Vec<Seen> {
         vec![Mark::RepeatedThen(UNRECOVERABLE_DATABASE)],
         refusals(Call::Find, &[H12]),
         other_header.to_vec(),
+        WITH_REQUESTS.map(Mark::Unsound).to_vec(),
+        CONDITIONS
+            .map(|only| Mark::Broken(Call::Receive, only))
+            .to_vec(),
+        CONDITIONS
+            .map(|only| Mark::Broken(Call::Find, only))
+            .to_vec(),
+        [0, 1, 2, 3, 4, 5, 9, 10, 11]
+            .map(Mark::OverUnsound)
+            .to_vec(),
+        vec![Mark::EndedOverUnsound],
     ];
     let of_other_lengths = [refusals(Call::Receive, &[H1]), refusals(Call::Find, &[H1])];
     [
@@ -414,6 +472,8 @@ mod tests {
                 Mark::Result(0, 0),
                 Mark::Result(0, 3),
                 Mark::Result(0, 255),
+                Mark::BehindDone(3),
+                Mark::BehindDone(255),
             ];
             let number = Some(edition.number);
             assert!(seen.0.keys().all(|seen| seen.edition == number));

@@ -18,6 +18,7 @@ mod layout;
 mod lent;
 mod library;
 mod limits;
+mod lists;
 mod model;
 mod options;
 mod pairs;
@@ -33,6 +34,7 @@ mod stores;
 mod tally;
 mod transactions;
 mod units;
+mod unsound;
 mod wire;
 
 use std::process::ExitCode;
@@ -97,6 +99,7 @@ impl Tests {
         periods::all(both, seed)?;
         latest::all(both, seed)?;
         units::all(both, seed)?;
+        lists::all(both, seed)?;
         for edition in EDITIONS {
             self.pairs.other_parity_is_seen(edition, seed)?;
         }

@@ -19,6 +19,7 @@ use crate::repeated::{begun_keeps_the_rule, Exchange};
 use crate::scene::{Scene, OUTPUT};
 use crate::sessions::start;
 use crate::tally::Tally;
+use crate::unsound::{search_keeps_the_rule, Judge};
 use crate::wire::{self, structs_at, HEADER, KMAC_IN_STRUCT, KMAC_LENGTH};
 use crate::wire::{RESULTS_AT, TYPE_AT};
 
@@ -27,6 +28,8 @@ pub struct Pairs {
     pub calls: u64,
     pub seen: Coverage,
     chain: Chain,
+    /// One for each run, whose stores differ in KMACs.
+    judges: [Judge; 2],
 }
 
 /// Two worlds and what the tally says of their stores.
@@ -43,6 +46,7 @@ impl Pairs {
             calls: 0,
             seen: Coverage::default(),
             chain: Chain::default(),
+            judges: Default::default(),
         }
     }
 
@@ -107,7 +111,7 @@ impl Pairs {
         if message != other {
             self.seen.see(&runs.first.store, Mark::OtherKmacs);
         }
-        let before = runs.first.clone();
+        let (before, before_2) = (runs.first.clone(), runs.second.clone());
         let (mut out_1, mut out_2) = (out.to_vec(), out.to_vec());
         let World { session, store } = &mut runs.first;
         let answer_1 = self.library.receive(session, message, store, &mut out_1);
@@ -138,6 +142,18 @@ impl Pairs {
             numbers("answer", answer.into(), answer_2?.into())?;
             buffers("output", &out_1, &out_2)?;
             exchange(answer).keeps_the_rule()?;
+            let [judge_1, judge_2] = &mut self.judges;
+            let stores = [&before.store[..], &runs.first.store];
+            judge_1.message(exchange(answer), stores).keeps_the_rule()?;
+            let second = Exchange {
+                before: &before_2.session,
+                message: other,
+                answer,
+                out: &out_2,
+                after: &runs.second.session,
+            };
+            let stores = [&before_2.store[..], &runs.second.store];
+            judge_2.message(second, stores).keeps_the_rule()?;
             runs.compare()
         })
     }
@@ -160,6 +176,9 @@ impl Pairs {
             numbers("answer", answer.into(), answer_2?.into())?;
             demand_1_of_search(answer, &before_1, &end_1)?;
             demand_1_of_search(answer, &before_2, &end_2)?;
+            for (judge, store) in self.judges.iter_mut().zip([first, second]) {
+                search_keeps_the_rule(judge.verdict(store), answer)?;
+            }
             match answer {
                 0.. => buffers("end", &end_1, &end_2),
                 _ => Ok(()),
@@ -196,8 +215,18 @@ impl Pairs {
             .receive(&mut session, message, &mut store, &mut out);
         let call = || receive_call(&before, message, OUTPUT.len());
         named(call, || {
-            numbers("answer", 24, answer?.into())?;
-            numbers("RESULT", result.into(), out[RESULTS_AT].into())
+            let answer = answer?;
+            numbers("answer", 24, answer.into())?;
+            numbers("RESULT", result.into(), out[RESULTS_AT].into())?;
+            let exchange = Exchange {
+                before: &before.session,
+                message,
+                answer,
+                out: &out,
+                after: &session,
+            };
+            let stores = [&before.store[..], &store];
+            self.judges[0].message(exchange, stores).keeps_the_rule()
         })
     }
 }

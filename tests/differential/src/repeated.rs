@@ -3,7 +3,7 @@
 
 use reference::message::kind;
 use reference::refusal::H5;
-use reference::session::{CLOSED, WAITING};
+use reference::session::{CLOSED, OPEN, WAITING};
 use reference::Identity;
 
 use crate::compare::{buffers, numbers, Compared};
@@ -52,7 +52,7 @@ impl Exchange<'_> {
     }
 
     /// The RESPONSE of the reply; none where there is no reply.
-    fn response(&self) -> Option<u8> {
+    pub fn response(&self) -> Option<u8> {
         (self.answer > 0).then(|| self.out[RESPONSE_AT])
     }
 
@@ -125,35 +125,43 @@ impl Exchange<'_> {
             &self.after[UNUSED_AT..],
         )?;
         if self.outcome() == Outcome::Heard(Some(REPEATED)) {
-            self.is_closed_by_ten()?;
+            self.fails_with(REPEATED, CLOSED)?;
         }
         Ok(())
     }
 
-    /// The reply has no RESULT and the own number, which rises; the expected one does not.
-    fn is_closed_by_ten(&self) -> Compared {
+    /// The reply has no RESULT and the own number, which rises; the expected one rises where the
+    /// session stays open.
+    pub fn fails_with(&self, response: u8, state: u8) -> Compared {
         let (own, peer): (Identity, Identity) = (four(self.before, 6), four(self.before, 10));
-        let next = u16::from_be_bytes([self.before[2], self.before[3]]);
+        let number = |at: usize| u16::from_be_bytes([self.before[at], self.before[at + 1]]);
+        let (next, expected) = (number(2), number(4));
         let header = Header {
             receiver: peer,
             sender: own,
             transaction: u32::from_be_bytes(self.transaction()),
             sequence: next,
         };
-        let reply = wire::message(&header, kind::RESPONSE, &[REPEATED, 0, 0]);
+        let reply = wire::message(&header, kind::RESPONSE, &[response, 0, 0]);
+        let length = reply.len() as i64;
         numbers(
-            "length of RESPONSE 10",
-            reply.len() as i64,
+            "length of a reply without RESULTs",
+            length,
             self.answer.into(),
         )?;
-        buffers("reply of RESPONSE 10", &reply, &self.out[..reply.len()])?;
+        buffers("reply without RESULTs", &reply, &self.out[..reply.len()])?;
         let mut session = *self.before;
-        session[0] = CLOSED;
         session[2..4].copy_from_slice(&next.wrapping_add(1).to_be_bytes());
+        let rises = u16::from(state == OPEN);
+        session[4..6].copy_from_slice(&expected.wrapping_add(rises).to_be_bytes());
         let (fields, got) = (2..NUMBER_AT, self.after);
-        numbers("state after RESPONSE 10", CLOSED.into(), got[0].into())?;
+        numbers(
+            "state after a reply without RESULTs",
+            state.into(),
+            got[0].into(),
+        )?;
         buffers(
-            "session after RESPONSE 10",
+            "session after a reply without RESULTs",
             &session[fields.clone()],
             &got[fields],
         )

@@ -9,6 +9,7 @@ mod search;
 mod self_test;
 mod session;
 mod slips;
+mod soundness;
 mod store;
 mod transactions;
 

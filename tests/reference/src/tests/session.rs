@@ -1,5 +1,6 @@
 //! Beginning, opening, the table of tests, the bodies, and the refusals in their order.
 
+use super::store::{with_a_count_over, with_a_fault};
 use super::{entries, entry, found, full, k_entities, k_identifier, k_struct, k_validity, message};
 use super::{
     number_of, numbered, open_session, peer_list, peers, remembering, reply, requests, transaction,
@@ -411,6 +412,10 @@ fn row_store() {
         for edition in EDITIONS {
             assert_response_over(unsound(edition), &command, 6, OPEN);
             assert_response_over(vec![0; edition.length()], &command, 6, OPEN);
+            let with_a_fault = with_a_fault(edition).into_iter().map(|(store, _)| store);
+            for store in with_a_fault.chain(with_a_count_over(edition)) {
+                assert_response_from(open_session(), store, &command, 6, OPEN);
+            }
         }
     }
 }

@@ -158,44 +158,52 @@ fn an_entry_keeps_a_peer_twice() {
     }
 }
 
-/// Each condition of soundness broken alone: place, and the byte put there.
+/// Stores with one condition of soundness broken, each with its name.
+pub(super) fn with_a_fault(edition: Edition) -> Vec<(Vec<u8>, &'static str)> {
+    let sound = encode(edition, &entries(&[2, 1]));
+    let peers_end = edition.peers_at() + 12;
+    // Place, and the byte put there.
+    let faults = [
+        (1, 3 - sound[1], "number of the other edition"),
+        (1, 0, "edition"),
+        (1, 3, "edition"),
+        (0, 1, "edition, upper byte"),
+        (5, 13, "offset of keys"),
+        (9, sound[9] + 1, "offset of peers"),
+        (8, sound[8] + 1, "offset of peers, upper byte"),
+        (11, sound[11] + 1, "total length"),
+        (10, sound[10] + 1, "total length, upper byte"),
+        (3, 1, "a record past the count"),
+        (3, 3, "a record missing"),
+        (7, 2, "a peer past the count"),
+        (7, 4, "a peer missing"),
+        (53, 1, "first index of the first record"),
+        (97, 3, "first index of the second record"),
+        (96, 1, "first index, upper byte"),
+        (55, 1, "count of the first record"),
+        (98, 1, "count, upper byte"),
+        (63, 1, "identity held twice"),
+        (20, sound[20] ^ 1, "parity of the first KMAC byte"),
+        (43, sound[43] ^ 0x10, "parity of the last KMAC byte"),
+        (64, sound[64] ^ 0x80, "parity in the second record"),
+        (100, 1, "first unused record byte"),
+        (edition.peers_at() - 1, 1, "last unused record byte"),
+        (peers_end, 1, "first unused peer byte"),
+        (edition.length() - 1, 1, "last unused peer byte"),
+    ];
+    let with_fault = |(at, byte, name): (usize, u8, _)| {
+        let mut store = sound.clone();
+        assert_ne!(store[at], byte, "{name}");
+        store[at] = byte;
+        (store, name)
+    };
+    faults.into_iter().map(with_fault).collect()
+}
+
 #[test]
 fn unsound_stores() {
     for edition in EDITIONS {
-        let sound = encode(edition, &entries(&[2, 1]));
-        let peers_end = edition.peers_at() + 12;
-        let faults = [
-            (1, 3 - sound[1], "number of the other edition"),
-            (1, 0, "edition"),
-            (1, 3, "edition"),
-            (0, 1, "edition, upper byte"),
-            (5, 13, "offset of keys"),
-            (9, sound[9] + 1, "offset of peers"),
-            (8, sound[8] + 1, "offset of peers, upper byte"),
-            (11, sound[11] + 1, "total length"),
-            (10, sound[10] + 1, "total length, upper byte"),
-            (3, 1, "a record past the count"),
-            (3, 3, "a record missing"),
-            (7, 2, "a peer past the count"),
-            (7, 4, "a peer missing"),
-            (53, 1, "first index of the first record"),
-            (97, 3, "first index of the second record"),
-            (96, 1, "first index, upper byte"),
-            (55, 1, "count of the first record"),
-            (98, 1, "count, upper byte"),
-            (63, 1, "identity held twice"),
-            (20, sound[20] ^ 1, "parity of the first KMAC byte"),
-            (43, sound[43] ^ 0x10, "parity of the last KMAC byte"),
-            (64, sound[64] ^ 0x80, "parity in the second record"),
-            (100, 1, "first unused record byte"),
-            (edition.peers_at() - 1, 1, "last unused record byte"),
-            (peers_end, 1, "first unused peer byte"),
-            (edition.length() - 1, 1, "last unused peer byte"),
-        ];
-        for (at, byte, name) in faults {
-            let mut store = sound.clone();
-            assert_ne!(store[at], byte, "{name}");
-            store[at] = byte;
+        for (store, name) in with_a_fault(edition) {
             assert_eq!(decode(&store), None, "{name}");
         }
     }
@@ -225,19 +233,28 @@ fn unsound_in_the_last_record() {
     }
 }
 
+/// Stores with one count over its limit, by one or by most.
+pub(super) fn with_a_count_over(edition: Edition) -> Vec<Vec<u8>> {
+    let mut stores = Vec::new();
+    for count in [edition.keys_max as u16 + 1, 0xffff] {
+        let mut keys = encode(edition, &entries(&vec![0; edition.keys_max]));
+        keys[2..4].copy_from_slice(&count.to_be_bytes());
+        stores.push(keys);
+    }
+    for count in [edition.peers_max as u16 + 1, 0xffff] {
+        let mut peers = encode(edition, &entries(&[edition.peers_max]));
+        peers[6..8].copy_from_slice(&count.to_be_bytes());
+        peers[54..56].copy_from_slice(&count.to_be_bytes());
+        stores.push(peers);
+    }
+    stores
+}
+
 #[test]
 fn counts_over_their_limits_are_unsound() {
     for edition in EDITIONS {
-        for count in [edition.keys_max as u16 + 1, 0xffff] {
-            let mut keys = encode(edition, &entries(&vec![0; edition.keys_max]));
-            keys[2..4].copy_from_slice(&count.to_be_bytes());
-            assert_eq!(decode(&keys), None);
-        }
-        for count in [edition.peers_max as u16 + 1, 0xffff] {
-            let mut peers = encode(edition, &entries(&[edition.peers_max]));
-            peers[6..8].copy_from_slice(&count.to_be_bytes());
-            peers[54..56].copy_from_slice(&count.to_be_bytes());
-            assert_eq!(decode(&peers), None);
+        for store in with_a_count_over(edition) {
+            assert_eq!(decode(&store), None);
         }
     }
 }
