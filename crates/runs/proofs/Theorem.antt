@@ -33,7 +33,7 @@ record SameRun (L : Limits) (cs cs' : List Call) (ts : List Tag) (w w' : World) 
   never-unsound : noneSaysUnsound (allSeen cs w) ≡ true
   twins : Twins L (tallyFrom ts (map messageIn cs) (map messageIn cs') (map replyIn (allSeen cs w))) (final cs w .store) (final cs' w' .store)
 
--- a call that does not blame the store, in front of others that do not
+-- an answer that does not say unsound, in front of others that do not
 one-more : (a b : Bool) → a ≡ false → b ≡ true → not a && b ≡ true
 one-more a b p q = rw (p, q)
 
