@@ -23,7 +23,7 @@ use Rattle.message.specs.Header.{transaction, sequence, kind}
 use Rattle.message.specs.Body.{bodyOk}
 use Rattle.session.specs.declared.Session.{Session}
 use Rattle.session.specs.Sessions.{State, Closed, Waiting, Open, stateOf, closing, opening}
-use Rattle.session.specs.Rules.{Answered, reply, ended, opened, refused, Outcome, refuse, respond, Test, test, lengthOk, headerTests, repeats, transactionTests, asksStore, bodyTests, Verdict, failed, passed, firstFailed, allPass, typeTest, verdict, heard, obey, judged, opens, whileWaiting, inState, receiveIn, receive}
+use Rattle.session.specs.Rules.{Answered, reply, ended, opened, refused, Outcome, refuse, respond, Test, test, lengthOk, headerTests, repeats, transactionTests, asksStore, storeTest, bodyTests, Verdict, failed, passed, firstFailed, allPass, typeTest, verdict, heard, obey, judged, opens, whileWaiting, inState, receiveIn, receive}
 use Rattle.session.specs.Claims.{Tested, HasResponse, AtStoreTest}
 
 -- ---- answers
@@ -51,7 +51,7 @@ obeyed-apart e m s out L DeleteAll b h g = apart _ b h
 obeyed-apart e m s out L EndOfUpdate b h g = apart _ b g
 
 -- its reply has RESPONSE 0
-pub obeyed-zero : (e : Session) (m s out : List ℕ) (L : Limits) (task : Task) (n r : ℕ) → obey L task e m s out .answer ≡ reply n → getD (obey L task e m s out .output) 20 0 ≡ suc r → ⊥
+obeyed-zero : (e : Session) (m s out : List ℕ) (L : Limits) (task : Task) (n r : ℕ) → obey L task e m s out .answer ≡ reply n → getD (obey L task e m s out .output) 20 0 ≡ suc r → ⊥
 unfolding respond obey splice
 obeyed-zero e m s out L (Requests k) n r q z = omega arith
 obeyed-zero e m s out L DeleteAll n r q z = omega arith
@@ -158,7 +158,7 @@ module _ (L : Limits) (e : Session) (m s : List ℕ) where
       typed : allPass (headerTests e m) ≡ true → allPass (transactionTests e m) ≡ true → (k : Kind) → kind m ≡ k → typeTest k L m s ≡ failed 6 then
           → AtStoreTest L e m s out × (sound L s ≡ false)
       typed h n (Asks task) is q =
-          let p = behind (test (bodyOk task m) 11 Closed ∷ []) (firstFailed (test (not (asksStore task) || sound L s) 6 Open ∷ []) (passed task)) (failed 6 then) refl q in
+          let p = behind (test (bodyOk task m) 11 Closed ∷ []) (firstFailed (storeTest task L s ∷ []) (passed task)) (failed 6 then) refl q in
           let t = stored (asksStore task) (sound L s) task (p .1) in
           (record { tested = x; header-right = h; number-new = n; task = task; type-is = is; body-right = and-left (bodyOk task m) true (p .0); asks = t .0 }, t .1)
       typed h n SessionInit is q = let z : _≡_ {A = ℕ} 1 6 = cc in absurd (omega arith)
@@ -210,3 +210,13 @@ module _ (P : Outcome → Type 0) (e : Session) (m s out : List ℕ)
   pub receive-ends : P (receive e m s out)
   unfolding receive
   receive-ends = by-edition (editionOf (length s)) refl
+
+-- a reply with a RESPONSE other than 0 tells the verdict
+pub reply-fails : (e : Session) (m s out : List ℕ) (n r : ℕ) → receive e m s out .answer ≡ reply n → getD (receive e m s out .output) 20 0 ≡ suc r
+    → (L : Limits) × Tested L e m s out × (then : State) × (verdict L e m s ≡ failed (suc r) then)
+unfolding refuse respond splice
+reply-fails e m s out n r =
+    receive-ends (λ o. o .answer ≡ reply n → getD (o .output) 20 0 ≡ suc r → (L : Limits) × Tested L e m s out × (then : State) × (verdict L e m s ≡ failed (suc r) then)) e m s out
+    (λ k h q z. absurd (apart (refused k) (reply n) refl q)) (λ q z. absurd (apart (refused 5) (reply n) refl q)) (λ q z. absurd (apart opened (reply n) refl q))
+    (λ L t response then v q z. (L, t, then, v ∙ ap (λ (x : ℕ). failed x then) z))
+    (λ L t task v q z. absurd (obeyed-zero (heard e m) m s out L task n r q z))

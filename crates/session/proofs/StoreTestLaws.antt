@@ -4,7 +4,6 @@ use mathlib.Core.Path.{_≡_, refl, sym, ap, _∙_, subst}
 use mathlib.Core.Bool.{Bool, true, false, cond}
 use mathlib.Core.List.{List}
 use Prim.Native.Nat.{ℕ, _+_}
-use lib.ListN.{getD}
 use Rattle.octets.specs.Bytes.{splice}
 use Rattle.octets.proofs.BoolLaws.{clash}
 use Rattle.store.specs.declared.Limits.{Limits}
@@ -17,11 +16,11 @@ use Rattle.message.specs.Body.{requestNumber, requests}
 use Rattle.command.proofs.WorkLaws.{results-length}
 use Rattle.session.specs.declared.Session.{Session}
 use Rattle.session.specs.Sessions.{Open}
-use Rattle.session.specs.Rules.{reply, opened, refused, refuse, respond, asksStore, headerTests, transactionTests, Verdict, passed, failed, firstFailed, typeTest, verdict, heard, obey, judged, receive}
+use Rattle.session.specs.Rules.{reply, respond, asksStore, headerTests, transactionTests, Verdict, passed, failed, firstFailed, typeTest, verdict, heard, obey, judged, receive}
 use Rattle.session.specs.Claims.{HasResponse, AtStoreTest, SixIsTheStoreTest}
 use Rattle.session.proofs.TestLaws.{tests-pass}
 use Rattle.session.proofs.OutcomeLaws.{tested-receive}
-use Rattle.session.proofs.RuleLaws.{apart, has-response, obeyed-zero, verdict-six, receive-ends}
+use Rattle.session.proofs.RuleLaws.{has-response, verdict-six, reply-fails}
 
 module _ (L : Limits) (e : Session) (m s out : List ℕ) (a : AtStoreTest L e m s out) where
   -- what the store test decides
@@ -50,14 +49,13 @@ worked-told L DeleteAll h e m s out = clash false h refl
 worked-told L EndOfUpdate h e m s out = clash false h refl
 
 pub six-is-the-store-test : SixIsTheStoreTest
-unfolding refuse respond splice
+unfolding respond
 six-is-the-store-test =
     record {
-      only = λ e m s out n.
-          receive-ends (λ o. o .answer ≡ reply n → getD (o .output) 19 0 ≡ 11 → getD (o .output) 20 0 ≡ 6 → (L : Limits) × AtStoreTest L e m s out × (sound L s ≡ false)) e m s out
-          (λ k h q y z. absurd (apart (refused k) (reply n) refl q)) (λ q y z. absurd (apart (refused 5) (reply n) refl q)) (λ q y z. absurd (apart opened (reply n) refl q))
-          (λ L t response then v q y z. let p = verdict-six L e m s out t then (v ∙ ap (λ (r : ℕ). failed r then) z) in (L, p .0, p .1))
-          (λ L t task v q y z. absurd (obeyed-zero (heard e m) m s out L task n 5 q z));
+      only = λ e m s out n q y z.
+          let f = reply-fails e m s out n 5 q z in
+          let p = verdict-six (f .0) e m s out (f .1) (f .2) (f .3) in
+          (f .0, p .0, p .1);
       unsound = λ L e m s out a h.
           subst (λ o. HasResponse 6 0 Open o × (o .store ≡ s)) (at-receive L e m s out a (failed 6 Open) (at-verdict L e m s out a false h)) (has-response 6 Open (heard e m) m s out, refl);
       is-sound = λ L e m s out a h.

@@ -5,7 +5,7 @@ use mathlib.Core.Bool.{Bool, true, false, cond}
 use mathlib.Core.List.{List, []}
 use Prim.Native.Nat.{ℕ}
 use lib.Dec.{eqb, leb}
-use lib.ListN.{length, getD}
+use lib.ListN.{length}
 use borrow.Author.Tests.{eqb-true, eqb-false, eq-eqb}
 use Rattle.octets.specs.Bytes.{splice}
 use Rattle.octets.proofs.BoolLaws.{and-left, and-right, and-both}
@@ -23,7 +23,7 @@ use Rattle.session.specs.Claims.{Recalls, beside, SameBeside, HeardIsRem
 use Rattle.session.proofs.SessionLaws.{begin-made}
 use Rattle.session.proofs.OutcomeLaws.{transaction-judged, tested-receive}
 use Rattle.session.proofs.TestLaws.{heard-old, heard-new}
-use Rattle.session.proofs.RuleLaws.{apart, has-response, obeyed-apart, obeyed-zero, verdict-ten, receive-ends}
+use Rattle.session.proofs.RuleLaws.{apart, has-response, obeyed-apart, verdict-ten, receive-ends, reply-fails}
 use Rattle.session.proofs.Theorems.{refusal-leaves-session}
 
 -- ---- what a session remembers
@@ -159,15 +159,11 @@ repeated-is-ten =
     }
 
 pub ten-is-repeated : TenIsRepeated
-unfolding refuse respond splice
 ten-is-repeated =
     record {
-      only = λ e m s out n.
-          receive-ends (λ o. o .answer ≡ reply n → getD (o .output) 19 0 ≡ 11 → getD (o .output) 20 0 ≡ 10 → (allPass (headerTests e m) ≡ true) × Recalls true (transaction m) e) e m s out
-          (λ k h q y z. absurd (apart (refused k) (reply n) refl q)) (λ q y z. absurd (apart (refused 5) (reply n) refl q)) (λ q y z. absurd (apart opened (reply n) refl q))
-          (λ L t response then v q y z.
-          let p = verdict-ten L e m s then (v ∙ ap (λ (r : ℕ). failed r then) z) in
+      only = λ e m s out n q y z.
+          let f = reply-fails e m s out n 9 q z in
+          let p = verdict-ten (f .0) e m s (f .2) (f .3) in
           let is = eqb (transaction m) (e .transaction) in
-          (p .0, record { remembered-is = and-left (e .remembered) is (p .1); number-is = sym (eqb-true (transaction m) (e .transaction) (and-right (e .remembered) is (p .1))) }))
-          (λ L t task v q y z. absurd (obeyed-zero (heard e m) m s out L task n 9 q z));
+          (p .0, record { remembered-is = and-left (e .remembered) is (p .1); number-is = sym (eqb-true (transaction m) (e .transaction) (and-right (e .remembered) is (p .1))) });
     }
