@@ -19,6 +19,8 @@ mod lent;
 mod library;
 mod limits;
 mod lists;
+#[cfg(test)]
+mod made;
 mod model;
 mod options;
 mod pairs;

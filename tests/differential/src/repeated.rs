@@ -181,47 +181,17 @@ fn four(bytes: &[u8], at: usize) -> [u8; 4] {
 
 #[cfg(test)]
 mod tests {
-    use super::{begun_keeps_the_rule, Exchange, Outcome, REPEATED};
+    use super::{begun_keeps_the_rule, Outcome, REPEATED};
+    use crate::both::World;
     use crate::library::{SessionBytes, NUMBER_AT, REMEMBERED_AT};
+    use crate::made::Made;
     use crate::model;
     use crate::scene::{Scene, OUTPUT};
     use crate::wire::{SEQUENCE_AT, TRANSACTION_AT};
     use reference::session::{OPEN, WAITING};
     use reference::store::EDITION_1;
 
-    /// The session before a message, the message, and what the second program makes of them.
-    struct Made {
-        before: SessionBytes,
-        message: Vec<u8>,
-        answer: i32,
-        out: [u8; 1032],
-        after: SessionBytes,
-    }
-
     impl Made {
-        fn new(before: SessionBytes, message: &[u8]) -> Made {
-            let mut store = Scene::new(EDITION_1, 1).world(OPEN).store;
-            let (mut after, mut out) = (before, OUTPUT);
-            let answer = model::receive(&mut after, message, &mut store, &mut out);
-            Made {
-                before,
-                message: message.to_vec(),
-                answer,
-                out,
-                after,
-            }
-        }
-
-        fn exchange(&self) -> Exchange<'_> {
-            Exchange {
-                before: &self.before,
-                message: &self.message,
-                answer: self.answer,
-                out: &self.out,
-                after: &self.after,
-            }
-        }
-
         fn is_right(&self) -> bool {
             self.exchange().keeps_the_rule().is_ok()
         }
@@ -231,16 +201,21 @@ mod tests {
         fn tells_what_is_remembered(&mut self) {
             assert!(self.is_right());
             for wrong in 1..=255 {
-                self.after[REMEMBERED_AT] ^= wrong;
+                self.after.session[REMEMBERED_AT] ^= wrong;
                 assert!(!self.is_right());
-                self.after[REMEMBERED_AT] ^= wrong;
+                self.after.session[REMEMBERED_AT] ^= wrong;
             }
             for bit in 8 * NUMBER_AT..8 * 32 {
-                self.after[bit / 8] ^= 1 << (bit % 8);
+                self.after.session[bit / 8] ^= 1 << (bit % 8);
                 assert!(!self.is_right(), "bit {bit}");
-                self.after[bit / 8] ^= 1 << (bit % 8);
+                self.after.session[bit / 8] ^= 1 << (bit % 8);
             }
         }
+    }
+
+    fn answered(session: SessionBytes, message: &[u8]) -> Made {
+        let store = Scene::new(EDITION_1, 1).world(OPEN).store;
+        Made::new(World { session, store }, message)
     }
 
     fn remember(session: &mut SessionBytes, flag: u8, message: &[u8]) {
@@ -254,13 +229,13 @@ mod tests {
         for message in scene.messages() {
             let mut session = scene.world(OPEN).session;
             remember(&mut session, 2, &message);
-            let mut made = Made::new(session, &message);
+            let mut made = answered(session, &message);
             assert_eq!(made.exchange().outcome(), Outcome::Heard(Some(REPEATED)));
             made.tells_what_is_remembered();
             for bit in 0..8 * NUMBER_AT {
-                made.after[bit / 8] ^= 1 << (bit % 8);
+                made.after.session[bit / 8] ^= 1 << (bit % 8);
                 assert!(!made.is_right(), "bit {bit} of the session");
-                made.after[bit / 8] ^= 1 << (bit % 8);
+                made.after.session[bit / 8] ^= 1 << (bit % 8);
             }
             for bit in 0..8 * 23 {
                 made.out[bit / 8] ^= 1 << (bit % 8);
@@ -278,9 +253,9 @@ mod tests {
                 for flag in [0, 1, 255] {
                     let mut session = scene.world(state).session;
                     session[REMEMBERED_AT] = flag;
-                    Made::new(session, &message).tells_what_is_remembered();
+                    answered(session, &message).tells_what_is_remembered();
                     session[4] ^= 1;
-                    Made::new(session, &message).tells_what_is_remembered();
+                    answered(session, &message).tells_what_is_remembered();
                 }
             }
         }
@@ -293,13 +268,13 @@ mod tests {
         let session = scene.world(OPEN).session;
         let mut repeating = session;
         remember(&mut repeating, 1, &message);
-        let mut made = Made::new(session, &message);
-        made.before = repeating;
+        let mut made = answered(session, &message);
+        made.before.session = repeating;
         assert!(!made.is_right());
-        let mut made = Made::new(repeating, &message);
-        made.before = session;
+        let mut made = answered(repeating, &message);
+        made.before.session = session;
         assert!(!made.is_right());
-        remember(&mut made.before, 0, &message);
+        remember(&mut made.before.session, 0, &message);
         assert!(!made.is_right());
     }
 

@@ -335,12 +335,10 @@ pub fn search_keeps_the_rule(verdict: Verdict, answer: i32) -> Compared {
 mod tests {
     use super::{emptied, search_keeps_the_rule, Condition, Judge, Judged, Verdict};
     use super::{CONDITIONS, COUNT_IN_RECORD, FIRST_IN_RECORD, IDENTIFIER, KEYS_AT, WITH_REQUESTS};
-    use crate::both::World;
     use crate::faults::{unsound, Fault};
     use crate::layout::{kmac_at, record_at, LENGTHS};
-    use crate::model;
-    use crate::repeated::Exchange;
-    use crate::scene::{Scene, OUTPUT};
+    use crate::made::Made;
+    use crate::scene::Scene;
     use crate::wire::{self, HEADER, RESPONSE_AT, TYPE_AT};
     use reference::session::{CLOSED, OPEN, WAITING};
     use reference::store::{encode, EDITIONS};
@@ -419,43 +417,11 @@ mod tests {
         }
     }
 
-    /// What the second program makes of a message, with room for slips.
-    struct Made {
-        before: World,
-        message: Vec<u8>,
-        answer: i32,
-        out: [u8; 1032],
-        after: World,
-    }
-
     impl Made {
-        fn new(before: World, message: &[u8]) -> Made {
-            let (mut after, mut out) = (before.clone(), OUTPUT);
-            let World { session, store } = &mut after;
-            let answer = model::receive(session, message, store, &mut out);
-            Made {
-                before,
-                message: message.to_vec(),
-                answer,
-                out,
-                after,
-            }
-        }
-
         fn over(scene: &Scene, store: &[u8], message: &[u8]) -> Made {
             let mut before = scene.world(OPEN);
             before.store = store.to_vec();
             Made::new(before, message)
-        }
-
-        fn exchange(&self) -> Exchange<'_> {
-            Exchange {
-                before: &self.before.session,
-                message: &self.message,
-                answer: self.answer,
-                out: &self.out,
-                after: &self.after.session,
-            }
         }
 
         fn judged(&self) -> Judged<'_> {
