@@ -5,7 +5,7 @@ use mathlib.Core.List.{List, []}
 use Prim.Native.Nat.{ℕ, _+_, _%_}
 use lib.Dec.{eqb, leb, ltb}
 use lib.ListN.{length, replicate, take}
-use mathlib.Core.Bool.{Bool, true, false, cond}
+use mathlib.Core.Bool.{Bool, true, false, cond, not}
 use Rattle.session.specs.declared.Session.{Session}
 use Rattle.session.specs.Sessions.{begin}
 use Rattle.session.specs.Rules.{Outcome, receive}
@@ -15,7 +15,9 @@ use Rattle.store.specs.declared.Limits.{Limits}
 use Rattle.store.specs.declared.Edition.{Edition}
 use Rattle.store.specs.declared.Edition.the-variants.{Known, Unknown}
 use Rattle.store.specs.Layout.{total, edition1, edition2, editionOf}
-use Rattle.store.specs.Store.{encode}
+use Rattle.store.specs.Store.{encode, entries}
+use Rattle.refusal.specs.House.{Answer, house, gives, unlessRefused}
+use Rattle.convert.specs.Convert.{answered}
 use Rattle.lines.specs.Digits.{bytesOf}
 use Rattle.lines.specs.Words.{word}
 use Rattle.lines.specs.Orders.{orderOf}
@@ -78,6 +80,18 @@ largeBy Unknown n large = large
 abbrev pub largeIn : List ℕ → Bool → Bool
 largeIn text large = largeBy (editionOf (length (bytesIn text 1))) (length (bytesIn text 1)) large
 
+-- the store that is held made one of the other edition, in a buffer of zeros: what is answered
+abbrev pub conversion : Bool → List ℕ → Answer
+conversion large s = answered (limitsOf large) (limitsOf (not large)) s (replicate (sizeOf (not large)) 0)
+
+-- whether edition 2 is held then, and the store; a refusal leaves both
+abbrev pub largeThen : Answer → Bool → Bool
+largeThen (gives n) large = not large
+largeThen (house n) large = large
+
+abbrev pub storeThen : Bool → List ℕ → List ℕ
+storeThen large s = unlessRefused (conversion large s) (encode (limitsOf (not large)) (entries (limitsOf large) s)) s
+
 -- what the message in a line does to the store that is held
 abbrev pub received : Session → List ℕ → Bool → List ℕ → Outcome
 received session text large s = receive session (bytesIn text 1) (storeOf large s) output
@@ -123,7 +137,7 @@ withKeys keyed k h = record { session = h .session; large = h .large; store = h 
 abbrev pub afterMessage : Outcome → Held → Held
 afterMessage o h = withStore (h .large) (o .store) (withSession (o .session) h)
 
--- what is held once a line was obeyed; begin, message, keys, store, edition and empty change it, and no other order does
+-- what is held once a line was obeyed; begin, message, keys, store, edition, convert and empty change it, and no other order does
 abbrev pub obeyed : Order → List ℕ → Held → Held
 obeyed order.Nothing text h = h
 obeyed order.Note text h = h
@@ -136,6 +150,7 @@ obeyed (order.Build destination direction) text h = h
 obeyed (order.Check destination direction) text h = h
 obeyed order.Store text h = withStore (largeIn text (h .large)) (storeIn text (h .store)) h
 obeyed (order.Edition large) text h = withStore large (emptyOf large) h
+obeyed order.Convert text h = withStore (largeThen (conversion (h .large) (h .store)) (h .large)) (storeThen (h .large) (h .store)) h
 obeyed order.Show text h = h
 obeyed order.Empty text h = withStore (h .large) (emptyOf (h .large)) h
 obeyed order.Help text h = h

@@ -31,6 +31,7 @@ fn reason(h: Refusal) {
         Refusal::NoKey => line(b" no key fits"),
         Refusal::StoreUnsound => line(b" store is unsound"),
         Refusal::KeyLength => line(b" key is not 24 bytes"),
+        Refusal::NoRoom => line(b" more than 64 keys or 256 peers held"),
     }
 }
 

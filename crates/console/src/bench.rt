@@ -8,6 +8,7 @@ use crate::sessions::begin;
 use crate::sessions::receive;
 use crate::show::held;
 use crate::stores::choose;
+use crate::stores::convert;
 use crate::stores::empty;
 use crate::stores::search;
 use crate::stores::store_of;
@@ -104,6 +105,10 @@ impl Bench {
             Order::Edition(large) => {
                 choose(large, store);
                 self.large = large;
+                self
+            }
+            Order::Convert => {
+                self.large = convert(self.large, store);
                 self
             }
             Order::Show => {

@@ -23,6 +23,7 @@ fn usage(command: Command) {
         ),
         Command::Store => line(b"store HEX (3852 or 38012 bytes, two hex digits a byte)"),
         Command::Edition => line(b"edition N (1 or 2: makes the empty store of it)"),
+        Command::Convert => line(b"convert (makes the store one of the other edition)"),
         Command::Show => line(b"show"),
         Command::Empty => line(b"empty"),
         Command::Help => line(b"help"),
@@ -74,6 +75,7 @@ pub fn help() {
     usage(Command::Check);
     usage(Command::Store);
     usage(Command::Edition);
+    usage(Command::Convert);
     usage(Command::Show);
     usage(Command::Empty);
     usage(Command::Help);

@@ -1,8 +1,10 @@
-// The store: searched, taken and emptied. The bench has room for a store of either edition, at the front of its buffer.
+// The store: searched, taken, emptied and converted. The bench has room for a store of either edition, at the front of its buffer.
 use crate::answers::place;
 use crate::answers::refused;
 use crate::text::LINE_BYTES;
 use crate::text::line;
+use crate::text::text;
+use convert::Converted;
 use lines::digits::decode;
 use lines::words::word;
 use store::Edition;
@@ -11,9 +13,11 @@ use store::editions::LENGTH_1;
 use store::editions::LENGTH_2;
 use store::editions::edition_of;
 ghost use mathlib.Core.Path.{_≡_};
+ghost use mathlib.Core.Bool.{not};
 ghost use Prim.Native.Nat.{_≤_};
 ghost use lib.ListN.{length};
-ghost use Rattle.console.specs.Bench.{sizeOf, storeOf, storeIn, largeIn, emptyOf};
+ghost use Rattle.convert.specs.Convert.{Converts};
+ghost use Rattle.console.specs.Bench.{limitsOf, sizeOf, storeOf, storeIn, largeIn, emptyOf, conversion, largeThen, storeThen};
 
 // The length of the store that is held.
 pub fn size(large: bool) -> usize
@@ -76,15 +80,59 @@ pub fn empty(large: bool, store: &mut [u8])
     line(b"store empty");
 }
 
+// What was done to the store, and the edition that is held.
+fn said(done: &[u8], large: bool) {
+    text(done);
+    if large {
+        line(b", edition 2");
+    } else {
+        line(b", edition 1");
+    }
+}
+
 // The same of the edition that is chosen.
 pub fn choose(large: bool, store: &mut [u8])
     requires { ⌜ length (now store) ≡ 38012 ⌝ }
     ensures { λ _. ⌜ storeOf large (now (store .exit)) ≡ emptyOf large ⌝ }
 {
     clear(large, store);
+    said(b"store empty", large);
+}
+
+// Makes a store of an edition one of the other.
+fn convert_from(large: bool, from: &[u8], to: &mut [u8]) -> Converted
+    ensures { λ r. ⌜ Converts (limitsOf large) (limitsOf (not large)) (now (from .entry)) (now (to .entry)) (now (to .exit)) r ⌝ }
+{
     if large {
-        line(b"store empty, edition 2");
+        convert::to_edition1(from, to)
     } else {
-        line(b"store empty, edition 1");
+        convert::to_edition2(from, to)
     }
+}
+
+// Makes the store that is held one of the other edition, which is made in a second buffer. Answers whether edition 2 is held then.
+fn convert_in(large: bool, store: &mut [u8], made: &mut [u8]) -> bool
+    requires { ⌜ (length (now store) ≡ 38012) × (length (now made) ≡ 38012) ⌝ }
+    ensures { λ r. ⌜ (r ≡ largeThen (conversion large (storeOf large (now (store .entry)))) large) × (storeOf r (now (store .exit)) ≡ storeThen large (storeOf large (now (store .entry)))) ⌝ }
+{
+    let n = size(!large);
+    match convert_from(large, store_of(large, store), &mut made[..n]) {
+        Converted::Done => {
+            octets::copy(store, 0, made, 0, n);
+            said(b"store converted", !large);
+            !large
+        }
+        Converted::Refused(h) => {
+            refused(h);
+            large
+        }
+    }
+}
+
+pub fn convert(large: bool, store: &mut [u8]) -> bool
+    requires { ⌜ length (now store) ≡ 38012 ⌝ }
+    ensures { λ r. ⌜ (r ≡ largeThen (conversion large (storeOf large (now (store .entry)))) large) × (storeOf r (now (store .exit)) ≡ storeThen large (storeOf large (now (store .entry)))) ⌝ }
+{
+    let mut made = [0u8; LENGTH_2];
+    convert_in(large, store, &mut made)
 }

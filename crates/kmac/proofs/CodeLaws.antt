@@ -15,13 +15,16 @@ use Rattle.octets.specs.Bytes.{between}
 use Rattle.octets.proofs.BoolLaws.{between-true}
 use Rattle.refusal.specs.House.{Answer, house, gives, houseNumber}
 use Rattle.refusal.specs.declared.Refusal.{Refusal}
-use Rattle.refusal.specs.declared.Refusal.the-variants.{StoreLength, OutputLength, SessionClosed, MessageShort, NoSessionInit, SameIdentity, UnitLength, MacDiffers, UnitContents, DataLength, NoKey, StoreUnsound, KeyLength}
+use Rattle.refusal.specs.declared.Refusal.the-variants.{StoreLength, OutputLength, SessionClosed, MessageShort, NoSessionInit, SameIdentity, UnitLength, MacDiffers, UnitContents, DataLength, NoKey, StoreUnsound, KeyLength, NoRoom}
 use Rattle.refusal.proofs.Laws.{asks-gives, gives-number}
 use Rattle.store.specs.declared.Edition.{Edition}
 use Rattle.store.specs.declared.Edition.the-variants.{Known, Unknown}
 use Rattle.store.specs.Layout.{editionOf}
 use Rattle.store.specs.Search.{Finding, found, find, findIn}
 use Rattle.store.proofs.SearchLaws.{editionOf-says, not-found, find-placed}
+use Rattle.convert.specs.Convert.{convertedAs}
+use Rattle.convert.specs.declared.Converted.{Converted}
+use Rattle.convert.specs.declared.Converted.the-variants.{Done, Refused}
 use Rattle.authentication.specs.Unit.{built, checked}
 use Rattle.authentication.proofs.AnswerLaws.{passed}
 use Rattle.kmac.specs.Code.{code, endAfter}
@@ -46,6 +49,7 @@ negative DataLength = record { fits = record { sfits = lit< tt }; is = refl }
 negative NoKey = record { fits = record { sfits = lit< tt }; is = refl }
 negative StoreUnsound = record { fits = record { sfits = lit< tt }; is = refl }
 negative KeyLength = record { fits = record { sfits = lit< tt }; is = refl }
+negative NoRoom = record { fits = record { sfits = lit< tt }; is = refl }
 
 -- what is told of a call that gives n, and of one that refuses
 pub told-given : {a : Answer} (n : ℕ) → n < 2 ^ 31 → gives n ≡ a → toZ w32 n ≡ code a
@@ -55,6 +59,14 @@ pub told-refused : {a : Answer} (h : Refusal) (z : ℤ) → z ≡ code (house (h
 told-refused h z q e =
     let n = negative h in
     toZ-ofZ w32 z (subst (λ (x : ℤ). SFits w32 x) (n .is ∙ sym q) (n .fits)) ∙ q ∙ ap code e
+
+-- what is told of a conversion
+conversion-fits : (r : Converted) → SFits w32 (code (convertedAs r))
+conversion-fits Done = record { sfits = lit< tt }
+conversion-fits (Refused h) = subst (λ (z : ℤ). SFits w32 z) (negative h .is) (negative h .fits)
+
+pub told-converted : {a : Answer} (r : Converted) (z : ℤ) → z ≡ code (convertedAs r) → convertedAs r ≡ a → toZ w32 (ofZ w32 z) ≡ code a
+told-converted r z q e = toZ-ofZ w32 z (subst (λ (x : ℤ). SFits w32 x) (sym q) (conversion-fits r)) ∙ q ∙ ap code e
 
 -- ---- the answers are small numbers
 

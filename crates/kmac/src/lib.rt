@@ -5,6 +5,7 @@ use crate::session_buffer::load;
 use authentication::Built;
 use authentication::Checked;
 use authentication::Derived;
+use convert::Converted;
 use refusal::Refusal;
 use refusal::house_number;
 use session::Begun;
@@ -16,8 +17,9 @@ ghost use mathlib.Core.Path.{_≡_};
 ghost use lib.ListN.{length};
 ghost use Rattle.refusal.specs.House.{house, gives, houseNumber, unlessRefused};
 ghost use Rattle.des.specs.Des.{desEncipher, desDecipher};
-ghost use Rattle.store.specs.Layout.{editionOf};
+ghost use Rattle.store.specs.Layout.{edition1, edition2, editionOf};
 ghost use Rattle.store.specs.Search.{placeIn, find, emptyIn, emptied};
+ghost use Rattle.convert.specs.Convert.{answered, converted, convertedAs};
 ghost use Rattle.authentication.specs.Keys.{derived, sessionKeys};
 ghost use Rattle.authentication.specs.Unit.{built, buffer, unitOf, checked};
 ghost use Rattle.session.specs.Sessions.{begin, beginOutput};
@@ -93,6 +95,34 @@ pub extern "C" fn kmac_empty_store(store: &mut [u8]) -> i32
         Emptied::Done => 0,
         Emptied::Refused(h) => refused(h),
     }
+}
+
+// What C is told of a conversion.
+fn told_conversion(answer: Converted) -> i32
+    ensures { λ r. ⌜ r ≡ code (convertedAs answer) ⌝ }
+{
+    match answer {
+        Converted::Done => 0,
+        Converted::Refused(h) => refused(h),
+    }
+}
+
+// Makes a store of edition 1 one of edition 2.
+#[no_mangle]
+pub extern "C" fn kmac_to_edition2(from: &[u8], to: &mut [u8]) -> i32
+    ensures { λ r. ⌜ r ≡ code (answered edition1 edition2 (now (from .entry)) (now (to .entry))) ⌝ }
+    ensures { λ _. ⌜ now (to .exit) ≡ converted edition1 edition2 (now (from .entry)) (now (to .entry)) ⌝ }
+{
+    told_conversion(convert::to_edition2(from, to))
+}
+
+// Makes a store of edition 2 one of edition 1, where its keys and peers have room there.
+#[no_mangle]
+pub extern "C" fn kmac_to_edition1(from: &[u8], to: &mut [u8]) -> i32
+    ensures { λ r. ⌜ r ≡ code (answered edition2 edition1 (now (from .entry)) (now (to .entry))) ⌝ }
+    ensures { λ _. ⌜ now (to .exit) ≡ converted edition2 edition1 (now (from .entry)) (now (to .entry)) ⌝ }
+{
+    told_conversion(convert::to_edition1(from, to))
 }
 
 // Checks a unit: the length of its user data, which start at byte 1.

@@ -95,6 +95,7 @@ few-fields command.Build = omega arith
 few-fields command.Check = omega arith
 few-fields command.Store = omega arith
 few-fields command.Edition = omega arith
+few-fields command.Convert = omega arith
 few-fields command.Show = omega arith
 few-fields command.Empty = omega arith
 few-fields command.Help = omega arith

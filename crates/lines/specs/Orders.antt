@@ -106,13 +106,14 @@ fieldsOrder command.Build s = onUnit command.Build (unitField s) order.Build
 fieldsOrder command.Check s = onUnit command.Check (unitField s) order.Check
 fieldsOrder command.Store s = bytesOrder command.Store order.Store s
 fieldsOrder command.Edition s = editionOrder s
+fieldsOrder command.Convert s = order.Convert
 fieldsOrder command.Show s = order.Show
 fieldsOrder command.Empty s = order.Empty
 fieldsOrder command.Help s = order.Help
 
 -- ---- commands
 
--- begin, message, search, keys, build, check, store, edition, show, empty, help
+-- begin, message, search, keys, build, check, store, edition, convert, show, empty, help
 unfoldable pub textOf : Command → List ℕ
 textOf command.Begin = 98 ∷ 101 ∷ 103 ∷ 105 ∷ 110 ∷ []
 textOf command.Message = 109 ∷ 101 ∷ 115 ∷ 115 ∷ 97 ∷ 103 ∷ 101 ∷ []
@@ -122,6 +123,7 @@ textOf command.Build = 98 ∷ 117 ∷ 105 ∷ 108 ∷ 100 ∷ []
 textOf command.Check = 99 ∷ 104 ∷ 101 ∷ 99 ∷ 107 ∷ []
 textOf command.Store = 115 ∷ 116 ∷ 111 ∷ 114 ∷ 101 ∷ []
 textOf command.Edition = 101 ∷ 100 ∷ 105 ∷ 116 ∷ 105 ∷ 111 ∷ 110 ∷ []
+textOf command.Convert = 99 ∷ 111 ∷ 110 ∷ 118 ∷ 101 ∷ 114 ∷ 116 ∷ []
 textOf command.Show = 115 ∷ 104 ∷ 111 ∷ 119 ∷ []
 textOf command.Empty = 101 ∷ 109 ∷ 112 ∷ 116 ∷ 121 ∷ []
 textOf command.Help = 104 ∷ 101 ∷ 108 ∷ 112 ∷ []
@@ -137,7 +139,7 @@ namedIn (c ∷ cs) w = pickNamed (same w (textOf c)) (named-as.Is c) (namedIn cs
 
 -- those for the bench itself
 abbrev pub benchCommands : List Command
-benchCommands = command.Store ∷ command.Edition ∷ command.Show ∷ command.Empty ∷ command.Help ∷ []
+benchCommands = command.Store ∷ command.Edition ∷ command.Convert ∷ command.Show ∷ command.Empty ∷ command.Help ∷ []
 
 unfoldable pub commandOf : List ℕ → Named
 commandOf w =
@@ -153,6 +155,7 @@ fieldCount command.Build = 3
 fieldCount command.Check = 3
 fieldCount command.Store = 1
 fieldCount command.Edition = 1
+fieldCount command.Convert = 0
 fieldCount command.Show = 0
 fieldCount command.Empty = 0
 fieldCount command.Help = 0

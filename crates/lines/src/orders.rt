@@ -20,6 +20,7 @@ pub enum Command {
     Check,
     Store,
     Edition,
+    Convert,
     Show,
     Empty,
     Help,
@@ -55,6 +56,7 @@ pub enum Order {
     Store,
     // Whether it is edition 2.
     Edition(bool),
+    Convert,
     Show,
     Empty,
     Help,
@@ -249,7 +251,8 @@ fn bench_command_of(w: &[u8]) -> Named
     let help = or_else(w, b"help", Command::Help, Named::Unknown);
     let empty = or_else(w, b"empty", Command::Empty, help);
     let show = or_else(w, b"show", Command::Show, empty);
-    let edition = or_else(w, b"edition", Command::Edition, show);
+    let convert = or_else(w, b"convert", Command::Convert, show);
+    let edition = or_else(w, b"edition", Command::Edition, convert);
     or_else(w, b"store", Command::Store, edition)
 }
 
@@ -279,6 +282,7 @@ fn field_count(command: Command) -> usize
         Command::Check => 3,
         Command::Store => 1,
         Command::Edition => 1,
+        Command::Convert => 0,
         Command::Show => 0,
         Command::Empty => 0,
         Command::Help => 0,
@@ -305,6 +309,7 @@ fn read_fields(command: Command, line: &[u8]) -> Order
         Command::Check => check(line),
         Command::Store => with_bytes(line, Command::Store, Order::Store),
         Command::Edition => edition(line),
+        Command::Convert => Order::Convert,
         Command::Show => Order::Show,
         Command::Empty => Order::Empty,
         Command::Help => Order::Help,

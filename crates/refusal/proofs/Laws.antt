@@ -3,11 +3,12 @@
 use mathlib.Core.Path.{_≡_, refl, sym, ap, _∙_}
 use mathlib.Core.List.{List, [], _∷_}
 use mathlib.Core.Bool.{Bool, true, false}
+use mathlib.Core.Logic.{_⊎_, inl, inr}
 use Prim.Native.Nat.{ℕ, zero, suc}
 use native.Mathlib.Omega.{arith}
 use Rattle.refusal.specs.House.{houseNumber, Answer, house, gives, asks, unlessRefused}
 use Rattle.refusal.specs.declared.Refusal.{Refusal}
-use Rattle.refusal.specs.declared.Refusal.the-variants.{StoreLength, OutputLength, SessionClosed, MessageShort, NoSessionInit, SameIdentity, UnitLength, MacDiffers, UnitContents, DataLength, NoKey, StoreUnsound, KeyLength}
+use Rattle.refusal.specs.declared.Refusal.the-variants.{StoreLength, OutputLength, SessionClosed, MessageShort, NoSessionInit, SameIdentity, UnitLength, MacDiffers, UnitContents, DataLength, NoKey, StoreUnsound, KeyLength, NoRoom}
 
 -- what has a way back is one to one
 pub one-each : {A B : Type 0} (f : A → B) (g : B → A) → ((a : A) → g (f a) ≡ a) → (a b : A) → f a ≡ f b → a ≡ b
@@ -23,7 +24,7 @@ at h (g ∷ gs) (suc n) = at g gs n
 pub named : ℕ → Refusal
 named =
     at KeyLength
-    (StoreLength ∷ OutputLength ∷ SessionClosed ∷ MessageShort ∷ NoSessionInit ∷ SameIdentity ∷ UnitLength ∷ MacDiffers ∷ UnitContents ∷ DataLength ∷ NoKey ∷ StoreUnsound ∷ KeyLength ∷ [])
+    (StoreLength ∷ OutputLength ∷ SessionClosed ∷ MessageShort ∷ NoSessionInit ∷ SameIdentity ∷ UnitLength ∷ MacDiffers ∷ UnitContents ∷ DataLength ∷ NoKey ∷ StoreUnsound ∷ KeyLength ∷ NoRoom ∷ [])
 
 pub named-back : (h : Refusal) → named (houseNumber h) ≡ h
 unfolding named at
@@ -40,6 +41,7 @@ named-back DataLength = refl
 named-back NoKey = refl
 named-back StoreUnsound = refl
 named-back KeyLength = refl
+named-back NoRoom = refl
 
 pub one-number : (g h : Refusal) → houseNumber g ≡ houseNumber h → g ≡ h
 one-number = one-each houseNumber named named-back
@@ -50,6 +52,11 @@ one-number = one-each houseNumber named named-back
 pub asks-gives : (b : Bool) (n : ℕ) (a : Answer) (m : ℕ) → asks b n a ≡ gives m → (b ≡ true) × (a ≡ gives m)
 asks-gives true n a m e = (refl, e)
 asks-gives false n a m e = let z : _≡_ {A = ℕ} 0 1 = cc in absurd (omega arith)
+
+-- what refuses has failed it, or one that follows
+pub asks-house : (b : Bool) (n : ℕ) (a : Answer) (m : ℕ) → asks b n a ≡ house m → ((b ≡ false) × (n ≡ m)) ⊎ ((b ≡ true) × (a ≡ house m))
+asks-house true n a m e = inr (refl, e)
+asks-house false n a m e = inl (refl, cc)
 
 -- ---- an answer has one number
 

@@ -4,7 +4,7 @@ use mathlib.Core.Bool.{Bool, true, false}
 use mathlib.Core.List.{List}
 use Prim.Native.Nat.{ℕ}
 use Rattle.refusal.specs.declared.Refusal.{Refusal}
-use Rattle.refusal.specs.declared.Refusal.the-variants.{StoreLength, OutputLength, SessionClosed, MessageShort, NoSessionInit, SameIdentity, UnitLength, MacDiffers, UnitContents, DataLength, NoKey, StoreUnsound, KeyLength}
+use Rattle.refusal.specs.declared.Refusal.the-variants.{StoreLength, OutputLength, SessionClosed, MessageShort, NoSessionInit, SameIdentity, UnitLength, MacDiffers, UnitContents, DataLength, NoKey, StoreUnsound, KeyLength, NoRoom}
 
 abbrev pub houseNumber : Refusal → ℕ
 houseNumber StoreLength = 1
@@ -20,6 +20,7 @@ houseNumber DataLength = 10
 houseNumber NoKey = 11
 houseNumber StoreUnsound = 12
 houseNumber KeyLength = 13
+houseNumber NoRoom = 14
 
 -- the refusal with this number, or the number that the call gives
 pub data Answer : Type 0 where

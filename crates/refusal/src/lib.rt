@@ -3,7 +3,7 @@ ghost use mathlib.Core.Path.{_≡_};
 ghost use Rattle.refusal.specs.House.{houseNumber};
 
 pub enum Refusal {
-    // H1: the store buffer has the length of no edition, neither 3,852 nor 38,012 bytes.
+    // H1: the store buffer has the length of no edition, neither 3,852 nor 38,012 bytes; in a conversion, not that of its side's edition.
     StoreLength,
     // H2: the output buffer is under 1,032 bytes.
     OutputLength,
@@ -25,10 +25,12 @@ pub enum Refusal {
     DataLength,
     // H11: no key fits.
     NoKey,
-    // H12: a search in an unsound store.
+    // H12: a search in an unsound store, or its conversion.
     StoreUnsound,
     // H13: the lent key is not 24 bytes.
     KeyLength,
+    // H14: a conversion to edition 1 with more than 64 keys or 256 peers held.
+    NoRoom,
 }
 
 // The number that document 01 gives the refusal.
@@ -49,5 +51,6 @@ pub fn house_number(h: Refusal) -> u8
         Refusal::NoKey => 11,
         Refusal::StoreUnsound => 12,
         Refusal::KeyLength => 13,
+        Refusal::NoRoom => 14,
     }
 }

@@ -11,3 +11,4 @@ pub mod Theorem
 pub mod CodeRunLaws
 pub mod Starred
 pub mod Witness
+pub mod ConversionTheorem

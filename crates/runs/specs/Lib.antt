@@ -5,3 +5,4 @@ pub mod Secrecy
 pub mod Sound
 pub mod CodeRuns
 pub mod Starred
+pub mod Conversion

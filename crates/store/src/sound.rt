@@ -42,7 +42,7 @@ fn header_ok(s: &[u8], lim: Limits) -> bool
 }
 
 // Whether both counts are in their limits.
-fn counts_ok(s: &[u8], lim: Limits) -> bool
+pub fn counts_ok(s: &[u8], lim: Limits) -> bool
     requires { ⌜ 12 ≤ length (now s) ⌝ }
     ensures { λ r. ⌜ r ≡ countsOk lim (now (s .entry)) ⌝ }
 {

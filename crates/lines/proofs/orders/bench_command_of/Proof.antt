@@ -35,14 +35,21 @@ slice-aggregate-or-else-5 c = search needs
 or-else-requires-5 : tie.Need-or-else-requires-5
 or-else-requires-5 c κs = search needs
 
+slice-aggregate-or-else-6 : tie.Need-slice-aggregate-or-else-6
+slice-aggregate-or-else-6 c = search needs
+
+or-else-requires-6 : tie.Need-or-else-requires-6
+or-else-requires-6 c κs = search needs
+
 returns : tie.Need-returns
 unfolding namedIn textOf
 returns c =
-    let o4 = c .before .before in
+    let o5 = c .before .before in
+    let o4 = o5 .before .before in
     let o3 = o4 .before .before in
     let o2 = o3 .before .before in
     let o1 = o2 .before .before in
-    simp (c .or-else5 .ensures, o4 .or-else4 .ensures, o3 .or-else3 .ensures, o2 .or-else2 .ensures, o1 .or-else .ensures)
+    simp (c .or-else6 .ensures, o5 .or-else5 .ensures, o4 .or-else4 .ensures, o3 .or-else3 .ensures, o2 .or-else2 .ensures, o1 .or-else .ensures)
 
 pub bench-command-of-spec : {M : Type 1} → statement M
 bench-command-of-spec =
@@ -58,4 +65,6 @@ bench-command-of-spec =
     or-else-requires-4
     slice-aggregate-or-else-5
     or-else-requires-5
+    slice-aggregate-or-else-6
+    or-else-requires-6
     returns)

@@ -63,6 +63,9 @@ enum-told-10 c = search needs
 enum-told-11 : tie.Need-enum-told-11
 enum-told-11 c = search needs
 
+enum-told-12 : tie.Need-enum-told-12
+enum-told-12 c = search needs
+
 returns : tie.Need-returns
 unfolding fieldsOrder
 returns c = simp (c .before .enum-told .given .1, sym (c .begin .ensures))
@@ -107,6 +110,10 @@ returns-11 : tie.Need-returns-11
 unfolding fieldsOrder
 returns-11 c = simp (c .enum-told11 .given .1)
 
+returns-12 : tie.Need-returns-12
+unfolding fieldsOrder
+returns-12 c = simp (c .enum-told12 .given .1)
+
 pub read-fields-spec : {M : Type 1} → statement M
 read-fields-spec =
     tie.close
@@ -130,6 +137,7 @@ read-fields-spec =
     enum-told-9
     enum-told-10
     enum-told-11
+    enum-told-12
     returns
     returns-2
     returns-3
@@ -140,4 +148,5 @@ read-fields-spec =
     returns-8
     returns-9
     returns-10
-    returns-11)
+    returns-11
+    returns-12)

@@ -108,6 +108,12 @@ choose-requires c κs = search needs
 enum-told-5 : tie.Need-enum-told-5
 enum-told-5 c = search needs
 
+convert-requires : tie.Need-convert-requires
+convert-requires c κs = search needs
+
+enum-told-6 : tie.Need-enum-told-6
+enum-told-6 c = search needs
+
 store-of-requires-3 : tie.Need-store-of-requires-3
 store-of-requires-3 c κs = search needs
 
@@ -117,20 +123,20 @@ held-requires c κs = search needs
 shown-requires : tie.Need-shown-requires
 shown-requires c κs = search needs
 
-enum-told-6 : tie.Need-enum-told-6
-enum-told-6 c = search needs
+enum-told-7 : tie.Need-enum-told-7
+enum-told-7 c = search needs
 
 empty-requires : tie.Need-empty-requires
 empty-requires c κs = search needs
 
-enum-told-7 : tie.Need-enum-told-7
-enum-told-7 c = search needs
+enum-told-8 : tie.Need-enum-told-8
+enum-told-8 c = search needs
 
 help-requires : tie.Need-help-requires
 help-requires c κs = search needs
 
-enum-told-8 : tie.Need-enum-told-8
-enum-told-8 c = search needs
+enum-told-9 : tie.Need-enum-told-9
+enum-told-9 c = search needs
 
 unknown-requires : tie.Need-unknown-requires
 unknown-requires c κs = search needs
@@ -244,26 +250,41 @@ same-length-9 c = search needs
 
 returns-11 : tie.Need-returns-11
 returns-11 c =
-    left (c .before .before .before .before .before .before) order.Show _ _ _ (c .before .before .before .before .enum-told5 .given .1) (kept (c .before .before .before .before .before .before))
+    let convert = c .before .before in
+    let read = convert .before .before .before .before in
+    let b = read .before .before .before .before .args .self in
+    left read order.Convert _ _ _ (convert .before .before .enum-told5 .given .1)
+    (record {
+      bench-is = ap (λ (x : Bool). changed b (b .session) x (b .held)) (convert .convert .ensures .0);
+      store-is = store-as _ _ (convert .convert .ensures .0) (convert .convert .ensures .1);
+      keys-are = refl;
+    })
 
 same-length-10 : tie.Need-same-length-10
 same-length-10 c = search needs
 
 returns-12 : tie.Need-returns-12
 returns-12 c =
-    let empty = c .before .before in
-    left (empty .before .before .before .before) order.Empty _ _ _ (empty .before .before .enum-told6 .given .1) (record { bench-is = refl; store-is = empty .empty .ensures; keys-are = refl })
+    left (c .before .before .before .before .before .before) order.Show _ _ _ (c .before .before .before .before .enum-told6 .given .1) (kept (c .before .before .before .before .before .before))
+
+same-length-11 : tie.Need-same-length-11
+same-length-11 c = search needs
 
 returns-13 : tie.Need-returns-13
 returns-13 c =
-    left (c .before .before .before) order.Help _ _ _ (c .before .enum-told7 .given .1) (kept (c .before .before .before))
+    let empty = c .before .before in
+    left (empty .before .before .before .before) order.Empty _ _ _ (empty .before .before .enum-told7 .given .1) (record { bench-is = refl; store-is = empty .empty .ensures; keys-are = refl })
 
 returns-14 : tie.Need-returns-14
 returns-14 c =
-    left (c .before .before .before) order.Unknown _ _ _ (c .before .enum-told8 .given .1) (kept (c .before .before .before))
+    left (c .before .before .before) order.Help _ _ _ (c .before .enum-told8 .given .1) (kept (c .before .before .before))
 
 returns-15 : tie.Need-returns-15
 returns-15 c =
+    left (c .before .before .before) order.Unknown _ _ _ (c .before .enum-told9 .given .1) (kept (c .before .before .before))
+
+returns-16 : tie.Need-returns-16
+returns-16 c =
     let told = c .before .before .fault .given in
     left (c .before .before .before .before) (order.Bad (told .0 .0) (told .0 .1 .0)) _ _ _ (told .1) (kept (c .before .before .before .before))
 
@@ -294,14 +315,16 @@ obey-spec =
     enum-known-large
     choose-requires
     enum-told-5
+    convert-requires
+    enum-told-6
     store-of-requires-3
     held-requires
     shown-requires
-    enum-told-6
-    empty-requires
     enum-told-7
-    help-requires
+    empty-requires
     enum-told-8
+    help-requires
+    enum-told-9
     unknown-requires
     enum-known-fault
     bad-requires
@@ -327,6 +350,8 @@ obey-spec =
     returns-11
     same-length-10
     returns-12
+    same-length-11
     returns-13
     returns-14
-    returns-15)
+    returns-15
+    returns-16)

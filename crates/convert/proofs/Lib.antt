@@ -1,0 +1,4 @@
+pub mod ConvertLaws
+pub mod DoneLaws
+pub mod RefusedLaws
+pub mod Theorems

@@ -1,0 +1,121 @@
+-- `convert::write` meets its contract.
+-- Assumes nothing.
+use native.Mathlib.Omega.{arith}
+use Prim.Native.Nat.{_-_}
+use Rattle.store.specs.Store.{entries}
+use Rattle.store.proofs.SoundLaws.{sound-says}
+use Rattle.store.proofs.DecodeLaws.{entries-length, peers-length}
+use Rattle.convert.proofs.ConvertLaws.{room-says, copied}
+use borrow.Author.Needs.{needs}
+use Rattle.convert.proofs.write.Statement.{statement}
+use Rattle.convert.proofs.write.Tie as tie
+
+number-at-requires : tie.Need-number-at-requires
+number-at-requires c κs =
+    let start = c .before .before in
+    let w = sound-says (start .args .source) (start .args .from .now) (start .pre .1 .0) in
+    omega (arith, w .size)
+
+number-at-requires-2 : tie.Need-number-at-requires-2
+number-at-requires-2 c κs =
+    let start = c .before .before .before in
+    let w = sound-says (start .args .source) (start .args .from .now) (start .pre .1 .0) in
+    omega (arith, w .size)
+
+mul-old : tie.Need-mul-old
+mul-old c = search needs
+
+add-old : tie.Need-add-old
+add-old c = search needs
+
+mul-new : tie.Need-mul-new
+mul-new c = search needs
+
+add-new : tie.Need-add-new
+add-new c = search needs
+
+write-empty-requires : tie.Need-write-empty-requires
+write-empty-requires c κs = search needs
+
+put-number-requires : tie.Need-put-number-requires
+put-number-requires c κs = search needs
+
+put-number-requires-2 : tie.Need-put-number-requires-2
+put-number-requires-2 c κs = search needs
+
+mul-copy : tie.Need-mul-copy
+mul-copy c = search needs
+
+copy-requires : tie.Need-copy-requires
+copy-requires c κs =
+    let put2 = c .before .before .before in
+    let put = put2 .before .before .before .before in
+    let empty = put .before .before .before .before in
+    let m = empty .before .before .before .before in
+    let n = m .before in
+    let start = n .before .before .before in
+    let a = start .args in
+    let w = sound-says (a .source) (a .from .now) (start .pre .1 .0) in
+    let r = room-says (a .target) (entries (a .source) (a .from .now)) (start .pre .1 .1) in
+    let en = entries-length (a .source) (a .from .now) in
+    let em = peers-length (a .source) (a .from .now) w in (
+      omega (arith, put2 .put-number2 .kept .0, put .put-number .kept .0, empty .write-empty .kept .0, start .pre .0 .2, r .keys-fit, en, n .number-at .ensures .0),
+      omega (arith, w .size, w .keys-fit, n .number-at .ensures .0),
+    )
+
+mul-copy-2 : tie.Need-mul-copy-2
+mul-copy-2 c = search needs
+
+copy-requires-2 : tie.Need-copy-requires-2
+copy-requires-2 c κs =
+    let copy = c .before .before .before in
+    let put2 = copy .before .before .before .before in
+    let put = put2 .before .before .before .before in
+    let empty = put .before .before .before .before in
+    let m = empty .before .before .before .before in
+    let n = m .before in
+    let start = n .before .before .before in
+    let a = start .args in
+    let w = sound-says (a .source) (a .from .now) (start .pre .1 .0) in
+    let r = room-says (a .target) (entries (a .source) (a .from .now)) (start .pre .1 .1) in
+    let en = entries-length (a .source) (a .from .now) in
+    let em = peers-length (a .source) (a .from .now) w in (
+      omega (arith, copy .copy .kept .0, put2 .put-number2 .kept .0, put .put-number .kept .0, empty .write-empty .kept .0, start .pre .0 .2, r .peers-fit, em, m .number-at2 .ensures .0),
+      omega (arith, w .size, w .peers-fit, m .number-at2 .ensures .0),
+    )
+
+same-length : tie.Need-same-length
+same-length c = search needs
+
+returns : tie.Need-returns
+returns c =
+    let copy2 = c .before .before in
+    let copy = copy2 .before .before .before .before in
+    let put2 = copy .before .before .before .before in
+    let put = put2 .before .before .before .before in
+    let empty = put .before .before .before .before in
+    let m = empty .before .before .before .before in
+    let n = m .before in
+    let start = n .before .before .before in
+    let a = start .args in
+    copied (a .source) (a .target) (a .from .now) (λ j. n .before .before .shared-slice-known .given j .fits) (start .pre .1 .0) (room-says (a .target) (entries (a .source) (a .from .now)) (start .pre .1 .1)) (n .number-at .result) (m .number-at2 .result) (empty .write-empty .last .0) (put .put-number .last .0) (put2 .put-number2 .last .0) (copy .copy .last .0) (copy2 .copy2 .last .0) (n .number-at .ensures .0) (m .number-at2 .ensures .0) (empty .write-empty .ensures) (put .put-number .ensures) (put2 .put-number2 .ensures) (copy .copy .ensures) (copy2 .copy2 .ensures)
+
+pub write-spec : {M : Type 1} → statement M
+write-spec =
+    tie.close
+    (tie.spec
+    number-at-requires
+    number-at-requires-2
+    mul-old
+    add-old
+    mul-new
+    add-new
+    write-empty-requires
+    put-number-requires
+    put-number-requires-2
+    mul-copy
+    copy-requires
+    mul-copy-2
+    copy-requires-2
+    same-length
+    returns)
