@@ -2,7 +2,7 @@
 //! Answers are those of the library's C interface: -n for refusal Hn, else a length or a place.
 
 use reference::session::{self, Answer, Session, OPEN};
-use reference::{authentication, store};
+use reference::{authentication, conversion, store};
 use std::slice;
 
 /// # Safety
@@ -139,4 +139,30 @@ pub unsafe extern "C" fn reference_check(
         destination,
         direction != 0,
     ))
+}
+
+/// # Safety
+/// `from` and `to` point to as many bytes as the length behind each says, and do not overlap.
+#[no_mangle]
+pub unsafe extern "C" fn reference_to_edition1(
+    from: *const u8,
+    from_len: usize,
+    to: *mut u8,
+    to_len: usize,
+) -> i32 {
+    let (from, to) = (lent(from, from_len), lent_mut(to, to_len));
+    code(conversion::to_edition_1(from, to).map(|()| 0))
+}
+
+/// # Safety
+/// `from` and `to` point to as many bytes as the length behind each says, and do not overlap.
+#[no_mangle]
+pub unsafe extern "C" fn reference_to_edition2(
+    from: *const u8,
+    from_len: usize,
+    to: *mut u8,
+    to_len: usize,
+) -> i32 {
+    let (from, to) = (lent(from, from_len), lent_mut(to, to_len));
+    code(conversion::to_edition_2(from, to).map(|()| 0))
 }

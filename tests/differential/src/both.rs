@@ -1,9 +1,11 @@
 //! Makes a call on the library and on the second program, and compares all that it leaves.
 
 use reference::refusal::H5;
+use reference::store::Edition;
 
 use crate::chain::Chain;
 use crate::compare::{buffers, numbers, Compared, Difference};
+use crate::converted::Conversion;
 use crate::coverage::{Call, Coverage, Mark};
 use crate::layout::KEYS_AT;
 use crate::library::{EndBytes, Library, SessionBytes, NUMBER_AT, REMEMBERED_AT, UNUSED_AT};
@@ -244,6 +246,36 @@ impl Both {
         self.seen.answer_over(store, Call::EmptyStore, answer);
         Ok(())
     }
+
+    /// The store at `from` made one of the target's edition. Gives the answer, and what both left at
+    /// `to`.
+    pub fn convert(&mut self, target: Edition, from: &[u8], to: &[u8]) -> Step<(i32, Vec<u8>)> {
+        self.calls += 1;
+        let (mut made, mut got_to) = (to.to_vec(), to.to_vec());
+        let answer = model::convert(target, from, &mut made);
+        let got = self.library.convert(target, from, &mut got_to);
+        let conversion = Conversion {
+            target,
+            from,
+            before: to,
+            after: &got_to,
+            answer,
+        };
+        named(
+            || convert_call(target, from, to.len()),
+            || {
+                numbers("answer", answer.into(), got?.into())?;
+                conversion.demand_1()?;
+                buffers("target", &made, &got_to)?;
+                conversion.keeps_the_rule(&mut self.judge)
+            },
+        )?;
+        self.seen.answer_over(from, conversion.call(), answer);
+        for mark in conversion.marks(self.judge.verdict(from)) {
+            self.seen.see(from, mark);
+        }
+        Ok((answer, made))
+    }
 }
 
 /// What the library left, by demand 1 alone: a refusal writes nowhere but for the session that H5
@@ -301,6 +333,11 @@ pub fn receive_call(before: &World, message: &[u8], out: usize) -> String {
 pub fn find_call(store: &[u8], peer: u32, t: u32) -> String {
     let store = store_of(store);
     format!("kmac_find, {store}, peer {peer:08x}, t {t:08x}")
+}
+
+pub fn convert_call(target: Edition, from: &[u8], to: usize) -> String {
+    let (number, from) = (target.number, store_of(from));
+    format!("kmac_to_edition{number}, {from}, target of {to} bytes")
 }
 
 /// The length and the first bytes of a store: edition and counts stand there.

@@ -6,9 +6,10 @@ use std::fmt;
 
 use reference::message::kind;
 use reference::message::response::UNRECOVERABLE_DATABASE;
-use reference::refusal::{H1, H12};
-use reference::store::{Edition, EDITIONS};
+use reference::refusal::{H1, H12, H14};
+use reference::store::{Edition, EDITIONS, EDITION_1, EDITION_2};
 
+use crate::converted::{Way, LIMITS};
 use crate::layout::{fits, has_other_header, held, period};
 use crate::repeated::BEFORE_REPEATED;
 use crate::unsound::{Condition, CONDITIONS, WITH_REQUESTS};
@@ -26,6 +27,8 @@ pub enum Call {
     Build,
     Check,
     EmptyStore,
+    ToEdition1,
+    ToEdition2,
 }
 
 /// One answer that can be told from the others.
@@ -88,6 +91,8 @@ pub enum Mark {
     TakenAfter9,
     /// A session init that opened a session that remembered a number.
     OpenedOverNumber,
+    /// A conversion that was done or refused in this way.
+    Conversion(Call, Way),
     /// A message with other KMACs in the second of two runs.
     OtherKmacs,
     /// A call after which two runs held a key unlike.
@@ -129,6 +134,7 @@ impl fmt::Display for Mark {
             Mark::TakenAfterForgotten => write!(f, "number taken that was forgotten"),
             Mark::TakenAfter9 => write!(f, "number taken after RESPONSE 9"),
             Mark::OpenedOverNumber => write!(f, "session opened over a number"),
+            Mark::Conversion(call, way) => write!(f, "{call:?} with {way:?}"),
             Mark::OtherKmacs => write!(f, "message with other KMACs"),
             Mark::HeldUnlike => write!(f, "key held unlike"),
         }
@@ -178,7 +184,7 @@ impl Coverage {
             _ => Mark::Given(call),
         };
         self.see(store, mark);
-        if mark == Mark::Refused(Call::Find, H12) && has_other_header(store) {
+        if mark == Mark::Refused(call, H12) && has_other_header(store) {
             self.see(store, Mark::HeaderOfOther(call));
         }
     }
@@ -290,6 +296,12 @@ fn mixed(results: &[u8]) -> Vec<Mark> {
 
 fn without_store(marks: Vec<Mark>) -> Vec<Seen> {
     let edition = None;
+    let seen = |mark| Seen { edition, mark };
+    marks.into_iter().map(seen).collect()
+}
+
+fn in_edition(edition: Edition, marks: Vec<Mark>) -> Vec<Seen> {
+    let edition = Some(edition.number);
     let seen = |mark| Seen { edition, mark };
     marks.into_iter().map(seen).collect()
 }
@@ -416,9 +428,45 @@ pub fn of_units() -> Vec<Seen> {
     .concat()
 }
 
+/// What the two conversions can answer. The edition is that of the source's length.
+pub fn of_conversions() -> Vec<Seen> {
+    let to_edition_1 = [
+        refusals(Call::ToEdition1, &[H14]),
+        ways(Call::ToEdition1, LIMITS.map(Way::NoRoom)),
+        ways(Call::ToEdition1, LIMITS.map(Way::UnsoundWithNoRoom)),
+    ];
+    [
+        of_conversion(EDITION_1, Call::ToEdition2, EDITION_2),
+        of_conversion(EDITION_2, Call::ToEdition1, EDITION_1),
+        in_edition(EDITION_2, to_edition_1.concat()),
+    ]
+    .concat()
+}
+
+/// What either can answer: done, H1 by either side or both, and H12 by each condition.
+fn of_conversion(source: Edition, call: Call, target: Edition) -> Vec<Seen> {
+    let over_source = [
+        answers(call, &[H1, H12]),
+        ways(call, LIMITS.map(Way::DoneAtLimit)),
+        ways(call, [Way::TargetLength]),
+        vec![Mark::HeaderOfOther(call)],
+        CONDITIONS.map(|only| Mark::Broken(call, only)).to_vec(),
+    ];
+    [
+        in_edition(source, over_source.concat()),
+        in_edition(target, ways(call, [Way::SourceLength, Way::Exchanged])),
+        without_store(ways(call, [Way::SourceLength])),
+    ]
+    .concat()
+}
+
+fn ways<const N: usize>(call: Call, ways: [Way; N]) -> Vec<Mark> {
+    ways.map(|way| Mark::Conversion(call, way)).to_vec()
+}
+
 #[cfg(test)]
 mod tests {
-    use super::{of_pairs, of_sessions, of_units, Call, Coverage, Mark};
+    use super::{of_conversions, of_pairs, of_sessions, of_units, Call, Coverage, Mark};
     use crate::random::Random;
     use crate::stores::Names;
     use reference::store::{encode, Entry, EDITIONS, EDITION_1, EDITION_2};
@@ -426,7 +474,7 @@ mod tests {
     #[test]
     fn nothing_seen_is_all_missing() {
         let seen = Coverage::default();
-        for required in [of_sessions(), of_units(), of_pairs()] {
+        for required in [of_sessions(), of_units(), of_conversions(), of_pairs()] {
             assert_eq!(seen.missing(&required), required);
         }
     }
@@ -552,14 +600,20 @@ mod tests {
 
     #[test]
     fn a_header_of_the_other_edition_is_told() {
-        for (edition, other) in [(EDITION_1, EDITION_2), (EDITION_2, EDITION_1)] {
+        let editions = [(EDITION_1, EDITION_2), (EDITION_2, EDITION_1)];
+        for ((edition, other), to_other) in editions
+            .into_iter()
+            .zip([Call::ToEdition2, Call::ToEdition1])
+        {
             let mut store = encode(edition, &[]);
             store[..12].copy_from_slice(&encode(other, &[])[..12]);
-            let mut seen = Coverage::default();
-            seen.answer_over(&store, Call::Find, -12);
-            let marks: Vec<_> = seen.0.keys().map(|seen| seen.mark).collect();
-            let refused = Mark::Refused(Call::Find, 12);
-            assert_eq!(marks, [refused, Mark::HeaderOfOther(Call::Find)]);
+            for call in [Call::Find, to_other] {
+                let mut seen = Coverage::default();
+                seen.answer_over(&store, call, -12);
+                let marks: Vec<_> = seen.0.keys().map(|seen| seen.mark).collect();
+                let refused = Mark::Refused(call, 12);
+                assert_eq!(marks, [refused, Mark::HeaderOfOther(call)]);
+            }
         }
     }
 }

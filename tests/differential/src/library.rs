@@ -3,6 +3,8 @@
 //! A call gives the answer and leaves in the slices what the library wrote. It is a
 //! difference where a guard is broken or a buffer lent to be read has changed.
 
+use reference::store::{Edition, EDITION_1};
+
 use crate::compare::{guards, unchanged, Difference};
 use crate::lent::Lent;
 use crate::random::Random;
@@ -64,6 +66,8 @@ extern "C" {
     fn kmac_des_encipher(key: *const u8, block: *const u8, result: *mut u8);
     fn kmac_des_decipher(key: *const u8, block: *const u8, result: *mut u8);
     fn kmac_empty_store(store: *mut u8, store_len: usize) -> i32;
+    fn kmac_to_edition1(from: *const u8, from_len: usize, to: *mut u8, to_len: usize) -> i32;
+    fn kmac_to_edition2(from: *const u8, from_len: usize, to: *mut u8, to_len: usize) -> i32;
 }
 
 /// Lends each buffer at a place that is drawn anew. Were it moved by a fixed step, a call that lends
@@ -257,6 +261,24 @@ impl Library {
         // SAFETY: the pointer is given with the length of its buffer.
         let answer = unsafe { kmac_empty_store(lent.as_mut_ptr(), lent.len()) };
         take_back("store", store, &lent)?;
+        Ok(answer)
+    }
+
+    /// The store at `from` made one of the target's edition.
+    pub fn convert(&mut self, target: Edition, from: &[u8], to: &mut [u8]) -> Answered<i32> {
+        let lent_from = self.lend(from);
+        let mut lent_to = self.lend(to);
+        let (f, n) = (lent_from.as_ptr(), lent_from.len());
+        let (t, m) = (lent_to.as_mut_ptr(), lent_to.len());
+        // SAFETY: each pointer is given with the length of its buffer.
+        let answer = unsafe {
+            match target {
+                EDITION_1 => kmac_to_edition1(f, n, t, m),
+                _ => kmac_to_edition2(f, n, t, m),
+            }
+        };
+        unchanged("source", from, &lent_from)?;
+        take_back("target", to, &lent_to)?;
         Ok(answer)
     }
 }

@@ -8,6 +8,8 @@
 mod both;
 mod chain;
 mod compare;
+mod convert;
+mod converted;
 mod coverage;
 mod damage;
 mod edges;
@@ -43,7 +45,7 @@ use std::process::ExitCode;
 use std::time::{Duration, Instant};
 
 use both::{Both, Failure, Step};
-use coverage::{of_pairs, of_sessions, of_units, Coverage, Seen};
+use coverage::{of_conversions, of_pairs, of_sessions, of_units, Coverage, Seen};
 use options::Options;
 use pairs::Pairs;
 use reference::store::{EDITIONS, EDITION_2};
@@ -100,6 +102,7 @@ impl Tests {
         search::all(both, seed)?;
         periods::all(both, seed)?;
         latest::all(both, seed)?;
+        convert::all(both, seed)?;
         units::all(both, seed)?;
         lists::all(both, seed)?;
         for edition in EDITIONS {
@@ -139,7 +142,7 @@ impl Tests {
 
     /// The summary; a failure where an answer was never seen.
     fn conclude(&self) -> ExitCode {
-        let all = [of_sessions(), of_units()].concat();
+        let all = [of_sessions(), of_units(), of_conversions()].concat();
         let part = |name, seen, required, runs| Part {
             name,
             seen,

@@ -2,8 +2,8 @@
 
 use reference::refusal::{H1, H5};
 use reference::session::{Answer, Session};
-use reference::store::{Edition, Found};
-use reference::{authentication, des::Des, session, store};
+use reference::store::{Edition, Found, EDITION_1};
+use reference::{authentication, conversion, des::Des, session, store};
 
 use crate::library::{EndBytes, SessionBytes};
 
@@ -138,4 +138,13 @@ pub fn empty_store(store: &mut [u8]) -> i32 {
     };
     store.copy_from_slice(&store::encode(edition, &[]));
     0
+}
+
+/// The store at `from` made one of the target's edition.
+pub fn convert(target: Edition, from: &[u8], to: &mut [u8]) -> i32 {
+    let converted = match target {
+        EDITION_1 => conversion::to_edition_1(from, to),
+        _ => conversion::to_edition_2(from, to),
+    };
+    code(converted.map(|()| 0))
 }

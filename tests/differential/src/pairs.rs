@@ -258,7 +258,7 @@ fn is_well_formed_add(message: &[u8]) -> bool {
 }
 
 /// Changes about half of the KMACs at the places: one byte, or all bytes, two bits each.
-fn vary(random: &mut Random, bytes: &mut [u8], places: &[usize]) {
+pub fn vary(random: &mut Random, bytes: &mut [u8], places: &[usize]) {
     for &at in places {
         match random.below(4) {
             0 => {

@@ -25,7 +25,7 @@ fn sound_stores(both: &mut Both, edition: Edition, seed: u64) -> Step {
         let entries = scene.names.sound(&mut scene.random);
         let store = scene.store(&entries);
         for place in some_places(&mut scene.random, entries.len()) {
-            around(both, &mut scene.random, &store, &entries[place])?;
+            search_around(both, &mut scene.random, &store, &entries[place])?;
         }
     }
     Ok(())
@@ -47,7 +47,7 @@ fn peers_apart(both: &mut Both, edition: Edition, seed: u64) -> Step {
     let entries = scene.names.apart(&mut scene.random);
     let store = scene.store(&entries);
     for entry in &entries {
-        around(both, &mut scene.random, &store, entry)?;
+        search_around(both, &mut scene.random, &store, entry)?;
         for peer in &entry.peers {
             both.find(&store, u32::from_be_bytes(*peer), entry.start)?;
         }
@@ -55,22 +55,29 @@ fn peers_apart(both: &mut Both, edition: Edition, seed: u64) -> Step {
     Ok(())
 }
 
-/// The moments at and beside the start and the end of a record, for some of its peers.
-fn around(both: &mut Both, random: &mut Random, store: &[u8], entry: &Entry) -> Step {
+fn search_around(both: &mut Both, random: &mut Random, store: &[u8], entry: &Entry) -> Step {
+    for (peer, t) in around(random, entry) {
+        both.find(store, peer, t)?;
+    }
+    Ok(())
+}
+
+/// The moments at and beside the start and the end of a record, for some of its peers; none where
+/// it has no peer.
+pub fn around(random: &mut Random, entry: &Entry) -> Vec<(u32, u32)> {
     let Some((&first, &last)) = entry.peers.first().zip(entry.peers.last()) else {
-        return Ok(());
+        return Vec::new();
     };
+    let mut searches = Vec::new();
     for peer in [first, last, other_digit(random, first)] {
         for edge in [entry.start, entry.end] {
             for step in [u32::MAX, 0, 1] {
-                let t = edge.wrapping_add(step);
-                both.find(store, u32::from_be_bytes(peer), t)?;
+                searches.push((u32::from_be_bytes(peer), edge.wrapping_add(step)));
             }
         }
     }
-    both.find(store, u32::from_be_bytes(first), 0)?;
-    both.find(store, u32::from_be_bytes(first), u32::MAX)?;
-    Ok(())
+    searches.extend([0, u32::MAX].map(|t| (u32::from_be_bytes(first), t)));
+    searches
 }
 
 /// Each bit of a peer that fits and of the moment.

@@ -1,7 +1,8 @@
-//! Random sequences of begin, messages and searches, chained over one session and one store.
+//! Random sequences of begin, messages and searches, chained over one session and one store, which is
+//! made one of the other edition and back now and then.
 
 use reference::session::{Session, OPEN, WAITING};
-use reference::store::encode;
+use reference::store::{encode, EDITION_1};
 
 use crate::both::{Both, Step, World};
 use crate::faults::{unsound, FAULTS};
@@ -24,6 +25,8 @@ pub fn sequence(both: &mut Both, seed: u64, steps: usize) -> Step {
             3 if generator.random.one_in(8) => {
                 step_with_other_edition(both, &mut generator, &mut world)?
             }
+            4 if generator.random.one_in(2) => step_converted(both, &mut generator, &mut world)?,
+            5 if generator.random.one_in(2) => convert_odd(both, &mut generator, &world)?,
             _ => step(both, &mut generator, &mut world)?,
         }
     }
@@ -107,6 +110,60 @@ fn step_with_store_length(both: &mut Both, generator: &mut Generator, world: &mu
     };
     store.resize(length, 0);
     step_with(both, generator, world, store)
+}
+
+/// The store made one of the other edition where there is room, one call on it, and back where there
+/// still is.
+fn step_converted(both: &mut Both, generator: &mut Generator, world: &mut World) -> Step {
+    let source = generator.edition();
+    let target = other(source);
+    let to = generator.random.bytes(target.length());
+    let (answer, store) = both.convert(target, &world.store, &to)?;
+    if answer != 0 {
+        return Ok(());
+    }
+    let session = world.session;
+    let mut converted = World { session, store };
+    step(both, generator, &mut converted)?;
+    world.session = converted.session;
+    let (answer, store) = both.convert(source, &converted.store, &world.store)?;
+    if answer == 0 {
+        world.store = store;
+    }
+    Ok(())
+}
+
+/// A conversion of an unsound store, or of the one at hand between buffers of other lengths.
+fn convert_odd(both: &mut Both, generator: &mut Generator, world: &World) -> Step {
+    let source = generator.edition();
+    let target = other(source);
+    if !generator.random.one_in(4) {
+        let from = unsound_source(generator);
+        both.convert(target, &from, &vec![0xa5; target.length()])?;
+        return Ok(());
+    }
+    let random = &mut generator.random;
+    let lengths = [source.length(), target.length(), random.pick(&LENGTHS)];
+    let (mut from, mut to) = (world.store.clone(), world.store.clone());
+    from.resize(random.pick(&lengths), 0);
+    to.resize(random.pick(&lengths), 0);
+    both.convert(random.pick(&[source, target]), &from, &to)?;
+    Ok(())
+}
+
+/// Of any counts of keys and peers, or full or nearly so.
+fn unsound_source(generator: &mut Generator) -> Vec<u8> {
+    let (edition, random) = (generator.edition(), &mut generator.random);
+    let entries = if random.one_in(2) {
+        let most_peers = random.pick(&[EDITION_1.peers_max, edition.peers_max]);
+        let keys = random.between(1, edition.keys_max);
+        let peers = random.between(0, most_peers);
+        generator.names.counted(random, keys, peers)
+    } else {
+        generator.names.sound(random)
+    };
+    let fault = random.pick(&FAULTS);
+    unsound(random, edition, &entries, fault)
 }
 
 fn step_with(

@@ -67,15 +67,21 @@ fn other_headers(both: &mut Both, edition: Edition, seed: u64) -> Step {
     for keys in [0, 1, 5, other.keys_max.min(64)] {
         let mut scene = Scene::new(other, seed ^ (26 + keys as u64));
         let entries = scene.names.entries(&mut scene.random, keys, 4);
-        let theirs = scene.store(&entries);
-        let mut store = theirs.clone();
-        store.resize(edition.length(), 0);
-        meet(both, &mut scene, &store)?;
-        let mut store = encode(edition, &entries);
-        store[..KEYS_AT].copy_from_slice(&theirs[..KEYS_AT]);
-        meet(both, &mut scene, &store)?;
+        for store in with_other_header(edition, &entries) {
+            meet(both, &mut scene, &store)?;
+        }
     }
     Ok(())
+}
+
+/// The other edition's store of the entries in this one's length, and its header over this one's.
+pub fn with_other_header(edition: Edition, entries: &[Entry]) -> [Vec<u8>; 2] {
+    let theirs = encode(other(edition), entries);
+    let mut resized = theirs.clone();
+    resized.resize(edition.length(), 0);
+    let mut store = encode(edition, entries);
+    store[..KEYS_AT].copy_from_slice(&theirs[..KEYS_AT]);
+    [resized, store]
 }
 
 /// A store with a held record, and a search and an update that reach it.
@@ -155,7 +161,7 @@ fn chosen_bits(both: &mut Both, edition: Edition, seed: u64) -> Step {
     Ok(())
 }
 
-fn chosen_bytes(edition: Edition, entries: &[Entry]) -> Vec<usize> {
+pub fn chosen_bytes(edition: Edition, entries: &[Entry]) -> Vec<usize> {
     let peers: usize = entries.iter().map(|entry| entry.peers.len()).sum();
     let last = entries.len() - 1;
     let keys_end = record_at(entries.len());

@@ -168,6 +168,18 @@ impl Names {
         entries
     }
 
+    /// `keys` records with this many peers together, dealt to any of them, or all to one.
+    pub fn counted(&self, random: &mut Random, keys: usize, peers: usize) -> Vec<Entry> {
+        let mut entries = self.entries(random, keys, 0);
+        let to_one = random.one_in(3);
+        let chosen = random.below(keys.max(1));
+        for peer in self.peers(random, peers) {
+            let place = if to_one { chosen } else { random.below(keys) };
+            entries[place].peers.push(peer);
+        }
+        entries
+    }
+
     /// A full store in which no peer stands twice, so that a search can end at each record.
     pub fn apart(&self, random: &mut Random) -> Vec<Entry> {
         let mut entries = self.entries(random, self.edition.keys_max, 0);
@@ -190,6 +202,7 @@ fn neighbour(identity: Identity, step: usize) -> Identity {
 #[cfg(test)]
 mod tests {
     use super::{odd_kmac, Names};
+    use crate::layout::{key_count, peer_count};
     use crate::random::Random;
     use reference::store::{decode, encode, EDITIONS};
 
@@ -227,6 +240,20 @@ mod tests {
                 let entries = names.filled(&mut random, keys, free);
                 let peers: usize = entries.iter().map(|entry| entry.peers.len()).sum();
                 assert_eq!((entries.len(), peers), (keys, edition.peers_max - free));
+            }
+        }
+    }
+
+    #[test]
+    fn a_counted_store_has_the_counts_that_were_asked() {
+        for edition in EDITIONS {
+            let mut random = Random::new(7);
+            let names = Names::new(edition, &mut random);
+            for (keys, peers) in [(0, 0), (1, 0), (1, 256), (64, 1), (64, 256)] {
+                let entries = names.counted(&mut random, keys, peers);
+                let store = encode(edition, &entries);
+                assert_eq!((key_count(&store), peer_count(&store)), (keys, peers));
+                assert_eq!(decode(&store), Some(entries));
             }
         }
     }

@@ -28,15 +28,15 @@ pub const WITH_REQUESTS: [u8; 4] = [
 const LOWEST_BITS: u64 = 0x0101_0101_0101_0101;
 
 /// An edition, with its numbers as document 01 and change request 5 print them.
-struct Edition {
-    number: usize,
-    keys_max: usize,
-    peers_max: usize,
-    peers_at: usize,
-    length: usize,
+pub struct Edition {
+    pub number: usize,
+    pub keys_max: usize,
+    pub peers_max: usize,
+    pub peers_at: usize,
+    pub length: usize,
 }
 
-const EDITIONS: [Edition; 2] = [
+pub const EDITIONS: [Edition; 2] = [
     Edition {
         number: 1,
         keys_max: 64,

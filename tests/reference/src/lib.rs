@@ -4,6 +4,7 @@
 //! SUBSET-037-2 4.0.0. A refusal of the house is the number alone: H13 is `Err(13)`.
 
 pub mod authentication;
+pub mod conversion;
 pub mod des;
 pub mod hex;
 pub mod message;

@@ -1,6 +1,7 @@
 //! Refusals of the house (01). Each constant has the number of its name.
 
-/// The store buffer has the length of neither edition: 3,852 or 38,012 bytes.
+/// The store buffer has the length of neither edition: 3,852 or 38,012 bytes. Of the two that a
+/// conversion is lent, one has not the length of its side's edition.
 pub const H1: u8 = 1;
 /// The output buffer is under 1,032 bytes.
 pub const H2: u8 = 2;
@@ -22,7 +23,9 @@ pub const H9: u8 = 9;
 pub const H10: u8 = 10;
 /// No key fits.
 pub const H11: u8 = 11;
-/// The search is in an unsound store.
+/// The search is in an unsound store, or the store to convert is unsound.
 pub const H12: u8 = 12;
 /// The lent key is not 24 bytes.
 pub const H13: u8 = 13;
+/// The store to convert holds more than the 64 keys or the 256 peers of edition 1 (02, change request 6).
+pub const H14: u8 = 14;

@@ -269,7 +269,8 @@ fn place(entries: &[Entry], key: &KeyIdentifier) -> Option<usize> {
     entries.iter().position(|entry| entry.key == *key)
 }
 
-fn peer_sum(entries: &[Entry]) -> usize {
+/// The peers of all entries together.
+pub fn peer_sum(entries: &[Entry]) -> usize {
     entries.iter().map(|entry| entry.peers.len()).sum()
 }
 

@@ -1,10 +1,11 @@
 //! A second console: reads the lines that crates/console reads, and prints what it must print.
 
 use reference::authentication::{build, check, session_keys};
+use reference::conversion::{to_edition_1, to_edition_2};
 use reference::hex::encode;
 use reference::message::response;
 use reference::session::{begin, receive, Answer, Session, CLOSED, OPEN, WAITING};
-use reference::store::{self, decode, find, Edition, Found, EDITIONS, EDITION_1};
+use reference::store::{self, decode, find, Edition, Found, EDITIONS, EDITION_1, EDITION_2};
 use reference::{Identity, OUTPUT_LENGTH};
 use std::io::Read;
 use std::ops::RangeInclusive;
@@ -12,7 +13,7 @@ use std::ops::RangeInclusive;
 /// The longest line.
 const LINE: usize = 76_100;
 
-const USAGE: [(&str, &str); 11] = [
+const USAGE: [(&str, &str); 12] = [
     (
         "begin",
         "begin OWN PEER NUMBER (identities of 8 hex digits, NUMBER 0 to 65535)",
@@ -36,13 +37,17 @@ const USAGE: [(&str, &str); 11] = [
         "store HEX (3852 or 38012 bytes, two hex digits a byte)",
     ),
     ("edition", "edition N (1 or 2: makes the empty store of it)"),
+    (
+        "convert",
+        "convert (makes the store one of the other edition)",
+    ),
     ("show", "show"),
     ("empty", "empty"),
     ("help", "help"),
 ];
 
 /// The reason of each refusal, H1 first.
-const REASONS: [&str; 13] = [
+const REASONS: [&str; 14] = [
     "store has the length of no edition",
     "output under 1032 bytes",
     "session is closed",
@@ -56,6 +61,7 @@ const REASONS: [&str; 13] = [
     "no key fits",
     "store is unsound",
     "key is not 24 bytes",
+    "more than 64 keys or 256 peers held",
 ];
 
 /// The meaning of each RESPONSE other than 0 that the module answers.
@@ -216,6 +222,7 @@ impl Bench {
             ),
             "store" => self.take(bytes(fields[0])?),
             "edition" => self.choose(decimal(fields[0], 1..=2)?),
+            "convert" => self.convert(),
             "show" => self.show(),
             "empty" => self.take_empty(),
             _ => help(),
@@ -309,6 +316,22 @@ impl Bench {
     fn choose(&mut self, number: u64) {
         self.store = store::encode(EDITIONS[number as usize - 1], &[]);
         println!("store empty, edition {number}");
+    }
+
+    /// A refusal leaves the store held.
+    fn convert(&mut self) {
+        let (target, convert): (_, fn(&[u8], &mut [u8]) -> _) = match self.edition() {
+            EDITION_1 => (EDITION_2, to_edition_2),
+            _ => (EDITION_1, to_edition_1),
+        };
+        let mut converted = vec![0; target.length()];
+        match convert(&self.store, &mut converted) {
+            Ok(()) => {
+                self.store = converted;
+                println!("store converted, edition {}", target.number);
+            }
+            Err(h) => refused(h),
+        }
     }
 
     fn take_empty(&mut self) {

@@ -1,4 +1,4 @@
-//! Prints the input of an example for the console: `console_examples update`, `torn`, `yards`, `depot`, `repeated` or `lines`.
+//! Prints the input of an example for the console: `console_examples update`, `torn`, `yards`, `depot`, `repeated`, `convert` or `lines`.
 
 use reference::authentication::{build, session_keys};
 use reference::hex::encode;
@@ -33,9 +33,10 @@ fn main() {
         "yards" => yards(),
         "depot" => depot(),
         "repeated" => repeated(),
+        "convert" => convert(),
         "lines" => lines(),
         _ => {
-            eprintln!("console_examples update|torn|yards|depot|repeated|lines");
+            eprintln!("console_examples update|torn|yards|depot|repeated|convert|lines");
             std::process::exit(2);
         }
     }
@@ -432,6 +433,73 @@ fn repeated_end() {
     println!("show");
 }
 
+fn convert() {
+    println!("# A depot changes over to edition 2 of the store, and back, and its keys go with it. Its tug is 02e6a541, the centre 05000017.");
+    println!("# The radio block centre of key nn is 010001nn, nn being the number in decimal; show prints serials in hex.");
+    println!("# The store is of edition 1. The centre brings three keys.");
+    let mut session = Session::open(TUG, 1, 100);
+    session.send(kind::ADD_KEYS, &keys_for(&[FIRST_RAILWAY], 1..=3));
+    println!("# Until when does key 2 fit? And session keys from it.");
+    search(centre_of(FIRST_RAILWAY, 2), NOON);
+    keys(2);
+    println!("# The store becomes one of edition 2, with the same records in the same order.");
+    println!("convert\nshow");
+    println!(
+        "# The same search has the same answer, and a unit under the session keys is accepted."
+    );
+    search(centre_of(FIRST_RAILWAY, 2), NOON);
+    check_line(TUG, 0, &unit(&kmac(2), TUG, false, b"proceed"));
+    println!("# Back in edition 1 the search has it too.");
+    println!("convert");
+    search(centre_of(FIRST_RAILWAY, 2), NOON);
+    println!("show");
+    too_many_keys(&mut session);
+    too_many_peers(&mut session);
+    session.end();
+    unsound_source();
+}
+
+fn too_many_keys(session: &mut Session) {
+    println!("# In edition 2 there is room for keys 4 to 65. The session is the one begun before, and takes the next message.");
+    println!("convert");
+    session.send(kind::ADD_KEYS, &keys_for(&[FIRST_RAILWAY], 4..=65));
+    println!("# Edition 1 takes 64 keys, and 65 are held: H14. The store is still of edition 2, and holds key 65 at place 65.");
+    println!("convert");
+    search(centre_of(FIRST_RAILWAY, 65), NOON);
+    println!("# Key 1 is deleted: 64 are left, and the last one is at place 64 in either edition.");
+    session.send(kind::DELETE_KEYS, &requests(&[identifier(1)]));
+    search(centre_of(FIRST_RAILWAY, 65), NOON);
+    println!("convert");
+    search(centre_of(FIRST_RAILWAY, 65), NOON);
+}
+
+/// From 64 keys with one peer each.
+fn too_many_peers(session: &mut Session) {
+    println!("# Edition 1 takes 256 peers. Key 2 shall be for 194 radio block centres; with those of the other keys that would be 257: RESULT 255.");
+    let list: Vec<Identity> = (1..=194).map(|n| [0x01, SECOND_RAILWAY, 0x01, n]).collect();
+    let of_many = requests(&[entities(2, &list)]);
+    session.send(kind::UPDATE_KEY_ENTITIES, &of_many);
+    println!("# In edition 2 the same is done, and then there is no way back: H14.");
+    println!("convert");
+    session.send(kind::UPDATE_KEY_ENTITIES, &of_many);
+    println!("convert");
+    println!("# Key 3 with its one peer is deleted: 63 keys and 256 peers. The last radio block centre of key 2 is found before and after.");
+    session.send(kind::DELETE_KEYS, &requests(&[identifier(3)]));
+    search(list[193], NOON);
+    println!("convert");
+    search(list[193], NOON);
+}
+
+fn unsound_source() {
+    println!("# A store that says it holds one key and has none is unsound: H12. It stays as it is, and of edition 1.");
+    let mut bytes = store::encode(EDITION_1, &[]);
+    bytes[3] = 1;
+    store_line(&bytes);
+    println!("convert\nshow");
+    println!("# The empty store is sound.");
+    println!("empty\nconvert\nshow");
+}
+
 /// Every command and every answer of the console, in few lines.
 fn lines() {
     println!("# Every command, and what is said of a line that is not read.\n");
@@ -451,6 +519,7 @@ fn lines() {
     responses();
     units();
     editions();
+    conversions();
     unsound();
     println!("{}", "x".repeat(LINE + 1));
     print!("# the end, with no line end");
@@ -571,7 +640,7 @@ fn large_stores(mut session: Session) {
     keys(1);
     put_header(&mut bytes, &store::encode(EDITION_1, &[]));
     store_line(&bytes);
-    println!("show");
+    println!("show\nconvert");
     search(NEXT_RBC, NOON);
     keys(1);
     session.send(kind::DELETE_KEYS, &requests(&[identifier(2)]));
@@ -581,6 +650,50 @@ fn large_stores(mut session: Session) {
     let longest = (LINE - "message ".len()) / 2;
     session.send(kind::ADD_KEYS, &vec![0; longest - message::HEADER_LENGTH]);
     println!("show");
+}
+
+/// The store made one of the other edition, and back: the session and the session keys held stay.
+fn conversions() {
+    println!("convert x\nconvert 1 2\nConvert\nedition 1\nconvert\nshow\n convert \nshow");
+    let mut session = Session::open(TUG, 1, 1);
+    let list = [
+        key(1, TUG, &kmac(1), &[RBC]),
+        key(2, TUG, &kmac(2), &[RBC, NEXT_RBC]),
+    ];
+    session.send(kind::ADD_KEYS, &requests(&list));
+    println!("show\nconvert\nshow");
+    search(NEXT_RBC, NOON);
+    check_line(TUG, 1, &unit(&kmac(2), TUG, true, &[1, 2, 3]));
+    keys(1);
+    no_room(&mut session);
+    println!("show");
+    check_line(TUG, 1, &unit(&kmac(1), TUG, true, &[1, 2, 3]));
+    session.end();
+}
+
+/// Two keys are held in edition 2: 65 keys, 257 peers, and both, are too many for edition 1.
+fn no_room(session: &mut Session) {
+    session.send(kind::ADD_KEYS, &keys_for(&[FIRST_RAILWAY], 3..=65));
+    println!("convert");
+    search(NEXT_RBC, NOON);
+    session.send(
+        kind::UPDATE_KEY_ENTITIES,
+        &requests(&[entities(2, &[TUG; 193])]),
+    );
+    println!("convert");
+    let added: Vec<Vec<u8>> = (3..=65).map(identifier).collect();
+    session.send(kind::DELETE_KEYS, &requests(&added));
+    session.send(
+        kind::UPDATE_KEY_ENTITIES,
+        &requests(&[entities(2, &[TUG; 256])]),
+    );
+    println!("convert");
+    session.send(
+        kind::UPDATE_KEY_ENTITIES,
+        &requests(&[entities(2, &[NEXT_RBC])]),
+    );
+    println!("convert");
+    search(NEXT_RBC, NOON);
 }
 
 /// An entry as the centre would add it.
@@ -625,7 +738,7 @@ fn unsound() {
     println!("show");
     bytes[3] = 1;
     store_line(&bytes);
-    println!("show");
+    println!("show\nconvert\nshow");
     search(RBC, NOON);
     keys(1);
     let mut session = Session::open(TUG, 1, 1);
@@ -634,7 +747,7 @@ fn unsound() {
     let mut bytes = store::encode(EDITION_1, &[]);
     put_header(&mut bytes, &store::encode(EDITION_2, &[]));
     store_line(&bytes);
-    println!("show");
+    println!("show\nconvert");
     search(RBC, NOON);
     session.send(kind::DELETE_KEYS, &requests(&[identifier(1)]));
     session.send(kind::DELETE_ALL_KEYS, &[]);

@@ -119,6 +119,7 @@ mod tests {
     const OUTPUT: &str = include_str!("../../../../examples/update.out");
 
     const DEPOT: &str = include_str!("../../../../examples/depot.txt");
+    const CONVERT: &str = include_str!("../../../../examples/convert.txt");
 
     #[test]
     fn keys_are_found() {
@@ -126,6 +127,8 @@ mod tests {
         assert_eq!(keys_of(INPUT).len(), 8);
         // 75 keys, which edition 1 would not take, and a session key of each.
         assert_eq!(keys_of(DEPOT).len(), 150);
+        // 65 keys, one more than edition 1 takes, and a session key of each.
+        assert_eq!(keys_of(CONVERT).len(), 130);
     }
 
     #[test]

@@ -2,6 +2,7 @@
 //! by byte and not with the library, so that a slip of the library shows.
 
 mod authentication;
+mod conversion;
 mod des;
 mod numbers;
 mod runs;
