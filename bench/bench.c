@@ -26,6 +26,8 @@ int32_t reference_build(const uint8_t *key, const uint8_t *destination, uint8_t 
                         size_t data_len, uint8_t *out, size_t out_len);
 int32_t reference_check(const uint8_t *unit, size_t unit_len, const uint8_t *key, const uint8_t *destination,
                         uint8_t direction);
+int32_t reference_to_edition2(const uint8_t *from, size_t from_len, uint8_t *to, size_t to_len);
+int32_t reference_to_edition1(const uint8_t *from, size_t from_len, uint8_t *to, size_t to_len);
 
 /* ---- inputs, and what a contender makes */
 
@@ -38,6 +40,7 @@ struct inputs {
 };
 
 static struct inputs inputs_1, inputs_2;
+static struct worst larger; /* the full store of edition 1, as one of edition 2 */
 static const struct worst *now; /* the message or the store of a row */
 static uint8_t key[KMAC_KEY_LEN], data[KMAC_DATA_MAX], unit[KMAC_UNIT_MAX];
 static const uint8_t destination[KMAC_DESTINATION_LEN] = {0xe6, 0xa5, 0x4b};
@@ -161,6 +164,9 @@ static void prepare(void)
 {
     prepare_stores(&edition_1, &inputs_1);
     prepare_stores(&edition_2, &inputs_2);
+    larger.edition = &edition_2;
+    if (kmac_to_edition2(inputs_1.worst[WORST_DELETES].store, KMAC_STORE_LEN, larger.store, KMAC_STORE_2_LEN) != 0)
+        abort();
     worst_kmac(1, key);
     for (size_t i = 0; i < sizeof data; i++)
         data[i] = (uint8_t)(7 * i);
@@ -229,6 +235,23 @@ static void find_reference(void)
     made.answer = reference_find(now->store, now->edition->store_len, worst_peer(now->edition), worst_moment(), &made.end);
 }
 
+/* ---- contenders: from one edition to the other */
+
+static void forward_kmac(void)
+{
+    made.answer = kmac_to_edition2(now->store, KMAC_STORE_LEN, made.store, KMAC_STORE_2_LEN);
+}
+static void forward_reference(void)
+{
+    made.answer = reference_to_edition2(now->store, KMAC_STORE_LEN, made.store, KMAC_STORE_2_LEN);
+}
+
+static void back_kmac(void) { made.answer = kmac_to_edition1(now->store, KMAC_STORE_2_LEN, made.store, KMAC_STORE_LEN); }
+static void back_reference(void)
+{
+    made.answer = reference_to_edition1(now->store, KMAC_STORE_2_LEN, made.store, KMAC_STORE_LEN);
+}
+
 static void self_test(void) { made.answer = kmac_self_test(); }
 
 /* ---- rows */
@@ -284,6 +307,10 @@ static const struct row rows[] = {
     {"find, all 500 keys fit, ends falling", {find_kmac, NULL, NULL, find_reference}, &inputs_2.falling},
     {"find, all 500 keys fit, ends rising", {find_kmac, NULL, NULL, find_reference}, &inputs_2.rising},
     {"soundness: find, last byte wrong, edition 2", {find_kmac, NULL, NULL, find_reference}, &inputs_2.unsound},
+    {"to edition 2, 64 keys and 256 peers", {forward_kmac, NULL, NULL, forward_reference}, &inputs_1.worst[WORST_DELETES]},
+    {"to edition 1, the same back", {back_kmac, NULL, NULL, back_reference}, &larger},
+    {"to edition 1, 500 keys: no room", {back_kmac, NULL, NULL, back_reference}, &inputs_2.worst[WORST_DELETES]},
+    {"soundness: find in that store of 64 keys, edition 2", {find_kmac, NULL, NULL, find_reference}, &larger},
     {"copy of the store, edition 2", {copy_store, NULL, NULL, NULL}, &inputs_2.worst[WORST_DELETES]},
 };
 

@@ -18,6 +18,9 @@
  *                 the end of a key to whatever address stands in the register of the fifth argument.
  *     version 1   had neither KMAC_VERSION nor kmac_version.
  *
+ * A call that comes new does not raise it: a host that does not make the call needs no change, and one that makes it does
+ * not link with a library that lacks it. So came kmac_to_edition2 and kmac_to_edition1, in version 3.
+ *
  *
  * WHAT HOLDS FOR EVERY CALL
  *
@@ -30,7 +33,7 @@
  * brackets say. No pointer may be NULL, not even where its length is 0: lend the address of any byte. No alignment is
  * asked of bytes; end of kmac_find is a uint32_t and aligned as C aligns one.
  *
- * Overlap. A buffer that a call may write (session, out, keys, result, end, and store where it is not const) must not
+ * Overlap. A buffer that a call may write (session, out, keys, result, end, to, and store where it is not const) must not
  * overlap any other buffer of that call, not by a single byte. Buffers that a call only reads may overlap: a KMAC can be
  * lent as a part of the store. What the library promises is proved for buffers that keep to this, and for no others.
  *
@@ -55,9 +58,8 @@
  * A store of edition 1 has KMAC_STORE_LEN bytes, one of edition 2, for a larger depot, KMAC_STORE_2_LEN. Each call that
  * takes a store takes either: the length that is lent picks the edition, and the limits are that edition's. The header
  * inside must be of the same edition, or the store counts as unsound; its bytes 10 and 11 are the store's length, the first
- * byte on top. The host chooses once, with the length that it lends to kmac_empty_store. No call makes the one edition of
- * the other: a depot that changes over begins with an empty store of edition 2, and its key centre brings the keys anew. A
- * session is tied to no edition.
+ * byte on top. The host chooses with the length that it lends to kmac_empty_store. A depot that changes over has its store
+ * written anew by kmac_to_edition2, or by kmac_to_edition1 where its keys have room there. A session is tied to no edition.
  *
  *
  * THE STORE OVER LOSS OF POWER
@@ -75,8 +77,19 @@
  * keeps the old store, sends nothing and closes the session by zeroing it. After loss of power it takes the store that it
  * last switched to and begins a new session.
  *
- * A store that is no longer sound is found out: kmac_find refuses it with H12, and kmac_receive answers RESPONSE 6, which
- * tells the key centre; its "delete all keys" makes the store empty, of the edition whose length is lent. Damage that
+ * A store is changed over in the same way: kmac_to_edition2 and kmac_to_edition1 write a second buffer and never the store
+ * that they read. With files:
+ *
+ *     read the kept store, and convert it into the second buffer;
+ *     if the answer is 0, write that to a new file beside the old one, under another name, and flush it to the medium;
+ *     rename the new file to the old one's name, in one step that replaces the old file, and flush the folder too.
+ *
+ * Loss of power before the renaming leaves the old store, whole, and perhaps a new file that is not, which the host deletes
+ * at power-on; after it, the new store stands whole. The file's length says which one it is. From the reading to the
+ * renaming the host calls kmac_receive on neither store: what it changed in the old one would be lost with it.
+ *
+ * A store that is no longer sound is found out: kmac_find and the two conversions refuse it with H12, and kmac_receive
+ * answers RESPONSE 6, which tells the key centre; its "delete all keys" makes the store empty, of the edition whose length is lent. Damage that
  * leaves the store sound, say two changed bits in one byte of a KMAC, is not found out: a host that must see it keeps a
  * checksum of its own.
  */
@@ -118,6 +131,8 @@ extern "C" {
 #define KMAC_STACK_VERSION 64
 #define KMAC_STACK_SELF_TEST 8128
 #define KMAC_STACK_EMPTY_STORE 64
+#define KMAC_STACK_TO_EDITION2 1408
+#define KMAC_STACK_TO_EDITION1 1408
 #define KMAC_STACK_FIND 1216
 #define KMAC_STACK_BEGIN 64
 #define KMAC_STACK_RECEIVE 1600
@@ -130,7 +145,7 @@ extern "C" {
 
 /* The refusals of the house. */
 enum kmac_refusal {
-    KMAC_H1_STORE_LENGTH = -1,     /* the store buffer is neither 3,852 nor 38,012 bytes */
+    KMAC_H1_STORE_LENGTH = -1,     /* the store buffer is neither 3,852 nor 38,012 bytes; to convert: not the one asked */
     KMAC_H2_OUTPUT_LENGTH = -2,    /* the output buffer is under 1,032 bytes */
     KMAC_H3_SESSION_CLOSED = -3,   /* a message to a closed session */
     KMAC_H4_MESSAGE_SHORT = -4,    /* a message shorter than its header of 20 bytes */
@@ -141,8 +156,9 @@ enum kmac_refusal {
     KMAC_H9_UNIT_CONTENTS = -9,    /* the MAC is right; the user data are empty, or ETY, MTI or direction wrong */
     KMAC_H10_DATA_LENGTH = -10,    /* the user data to protect are not 1 to 1,023 bytes */
     KMAC_H11_NO_KEY = -11,         /* no key fits */
-    KMAC_H12_STORE_UNSOUND = -12,  /* a search in an unsound store */
-    KMAC_H13_KEY_LENGTH = -13      /* the lent key is not 24 bytes */
+    KMAC_H12_STORE_UNSOUND = -12,  /* a search in an unsound store, or its conversion */
+    KMAC_H13_KEY_LENGTH = -13,     /* the lent key is not 24 bytes */
+    KMAC_H14_NO_ROOM = -14         /* to edition 1, and more than 64 keys or 256 peers are held */
 };
 
 /* ---- the key store */
@@ -152,6 +168,18 @@ enum kmac_refusal {
  * Answers 0. Refuses H1.
  */
 int32_t kmac_empty_store(uint8_t *store, size_t store_len);
+
+/*
+ * Writes a store of edition 1 (from, KMAC_STORE_LEN bytes) anew as one of edition 2 (to, KMAC_STORE_2_LEN bytes), and the
+ * other way. The new store has the same keys in the same order, so that every search answers the same of both, and each
+ * KMAC stands at the same place. What stood in to before is not looked at; all of it is overwritten. from is not written.
+ * There and back gives the same bytes. "The store over loss of power" says how a host replaces the one by the other.
+ * Answers 0. Refuses H1 where either length is another one than that, then H12 where from is not sound in its edition. The
+ * way to edition 1 then refuses H14 where from holds more than KMAC_STORE_KEYS keys or KMAC_STORE_PEERS peers; the way to
+ * edition 2 has room for every sound store.
+ */
+int32_t kmac_to_edition2(const uint8_t *from, size_t from_len, uint8_t *to, size_t to_len);
+int32_t kmac_to_edition1(const uint8_t *from, size_t from_len, uint8_t *to, size_t to_len);
 
 /*
  * Searches the key for a peer at the moment t. A record fits that has the peer in its list and start <= t <= end, the three

@@ -189,6 +189,21 @@ static void delete_and_end(struct centre *centre)
     step("a message after it", receive(&message), KMAC_H3_SESSION_CLOSED);
 }
 
+/* ---- a larger depot */
+
+/* The store made one of edition 2, which answers the same, and back. A real host keeps the new one, as kmac.h says. */
+static void change_over(void)
+{
+    static uint8_t larger[KMAC_STORE_2_LEN], back[KMAC_STORE_LEN];
+    uint32_t end = 0;
+    step("make the store one of edition 2", kmac_to_edition2(kept[current], KMAC_STORE_LEN, larger, sizeof larger), 0);
+    step("find the key for the RBC there", kmac_find(larger, sizeof larger, RBC, NOON, &end), 2);
+    until(end, LATER_END);
+    step("make that one of edition 1", kmac_to_edition1(larger, sizeof larger, back, sizeof back), 0);
+    holds("  the same bytes", memcmp(back, kept[current], sizeof back) == 0);
+    step("the other way round", kmac_to_edition1(back, sizeof back, larger, sizeof larger), KMAC_H1_STORE_LENGTH);
+}
+
 /* ---- data units */
 
 /* The session keys of a connection to the RBC. The tug calls: ra is the RBC's random number, rb its own. */
@@ -244,6 +259,7 @@ int main(void)
     refuse_repeated(&centre);
     open_session(&centre);
     delete_and_end(&centre);
+    change_over();
     derive(keys);
     exchange(keys);
     return 0;

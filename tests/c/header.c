@@ -21,7 +21,7 @@ HELD_AT_COMPILE_TIME(KMAC_OUT_LEN >= KMAC_UNIT_MAX, "a unit fits into an output 
 HELD_AT_COMPILE_TIME(KMAC_KEY_AT(1) == 20, "the first KMAC");
 HELD_AT_COMPILE_TIME(KMAC_KEY_AT(KMAC_STORE_KEYS) + KMAC_KEY_LEN <= KMAC_STORE_LEN, "the last KMAC");
 HELD_AT_COMPILE_TIME(KMAC_KEY_AT(KMAC_STORE_2_KEYS) + KMAC_KEY_LEN <= KMAC_STORE_2_LEN, "the last KMAC of edition 2");
-HELD_AT_COMPILE_TIME(KMAC_H13_KEY_LENGTH == -13, "a refusal is the negative of its number");
+HELD_AT_COMPILE_TIME(KMAC_H14_NO_ROOM == -14, "a refusal is the negative of its number");
 
 static int32_t (*const begin)(uint32_t, uint32_t, uint16_t, uint8_t *, uint8_t *, size_t) = kmac_begin;
 static int32_t (*const receive)(uint8_t *, const uint8_t *, size_t, uint8_t *, size_t, uint8_t *, size_t) = kmac_receive;
@@ -34,6 +34,8 @@ static int32_t (*const check)(const uint8_t *, size_t, const uint8_t *, size_t, 
 static void (*const encipher)(const uint8_t *, const uint8_t *, uint8_t *) = kmac_des_encipher;
 static void (*const decipher)(const uint8_t *, const uint8_t *, uint8_t *) = kmac_des_decipher;
 static int32_t (*const empty_store)(uint8_t *, size_t) = kmac_empty_store;
+static int32_t (*const to_edition2)(const uint8_t *, size_t, uint8_t *, size_t) = kmac_to_edition2;
+static int32_t (*const to_edition1)(const uint8_t *, size_t, uint8_t *, size_t) = kmac_to_edition1;
 static int32_t (*const self_test)(void) = kmac_self_test;
 static int32_t (*const version)(void) = kmac_version;
 
@@ -77,6 +79,46 @@ static int header_answers(void)
     return store_answers(store, sizeof store) && store_answers(store_2, KMAC_STORE_2_LEN);
 }
 
+/* The store of edition 2 with so many keys, all of one issuer and one KMAC, and with all its peers at the last. */
+static void hold(unsigned keys, unsigned peers)
+{
+    empty_store(store_2, KMAC_STORE_2_LEN);
+    store_2[2] = (uint8_t)(keys >> 8);
+    store_2[3] = (uint8_t)keys;
+    store_2[6] = (uint8_t)(peers >> 8);
+    store_2[7] = (uint8_t)peers;
+    for (unsigned i = 0; i < keys; i++) {
+        uint8_t *record = store_2 + 12 + (size_t)44 * i;
+        record[6] = (uint8_t)(i >> 8);
+        record[7] = (uint8_t)i;
+        memset(record + 8, 1, KMAC_KEY_LEN);
+        if (i + 1 == keys) {
+            record[42] = (uint8_t)(peers >> 8);
+            record[43] = (uint8_t)peers;
+        }
+    }
+}
+
+/* Back to edition 1, into a buffer that must be overwritten whole where the answer is 0, and must stay as it was elsewhere. */
+static int back_answers(unsigned keys, unsigned peers, int32_t answer)
+{
+    hold(keys, peers);
+    memset(store, 0xa5, sizeof store);
+    return to_edition1(store_2, KMAC_STORE_2_LEN, store, sizeof store) == answer && store[0] == (answer == 0 ? 0 : 0xa5) &&
+           store[sizeof store - 1] == (answer == 0 ? 0 : 0xa5);
+}
+
+static int conversion_answers(void)
+{
+    return to_edition2(store_2, KMAC_STORE_2_LEN, store, sizeof store) == KMAC_H1_STORE_LENGTH &&
+           to_edition2(store, sizeof store, store_2, KMAC_STORE_2_LEN + 1) == KMAC_H1_STORE_LENGTH &&
+           to_edition1(store, sizeof store, store_2, KMAC_STORE_2_LEN) == KMAC_H1_STORE_LENGTH &&
+           back_answers(KMAC_STORE_KEYS, KMAC_STORE_PEERS, 0) &&
+           to_edition2(store, sizeof store, store_2, KMAC_STORE_2_LEN) == 0 && store_2[1] == 2 &&
+           back_answers(KMAC_STORE_KEYS + 1, 0, KMAC_H14_NO_ROOM) && back_answers(1, KMAC_STORE_PEERS + 1, KMAC_H14_NO_ROOM) &&
+           back_answers(KMAC_STORE_2_KEYS + 1, 0, KMAC_H12_STORE_UNSOUND) && back_answers(0, 0, 0);
+}
+
 /* The session is all zero bytes at first: closed. A message of 20 bytes that is no session init closes a waiting one. */
 static int session_answers(uint8_t *lent, size_t length)
 {
@@ -94,7 +136,8 @@ static int session_answers(uint8_t *lent, size_t length)
 static int stores_answer(void)
 {
     return lengths_answer() && store_answers(store, sizeof store) && store_answers(store_2, KMAC_STORE_2_LEN) &&
-           header_answers() && session_answers(store, sizeof store) && session_answers(store_2, KMAC_STORE_2_LEN);
+           header_answers() && session_answers(store, sizeof store) && session_answers(store_2, KMAC_STORE_2_LEN) &&
+           conversion_answers();
 }
 
 static int unit_answers(void)

@@ -17,6 +17,7 @@ static const uint8_t *top; /* the caller's stack pointer as it makes the call */
 
 static struct worst now; /* the message on its way, or the store that is lent */
 static uint8_t unit[KMAC_UNIT_MAX], out[KMAC_UNIT_MAX], data[KMAC_DATA_MAX], key[KMAC_KEY_LEN], keys[KMAC_KEY_LEN];
+static uint8_t other_store[KMAC_STORE_2_LEN]; /* that a conversion writes */
 static const uint8_t destination[KMAC_DESTINATION_LEN] = {0xe6, 0xa5, 0x4b};
 static int32_t answer;
 
@@ -100,6 +101,21 @@ static void call_empty_store(void)
     leave();
 }
 
+/* To the other edition. */
+static void call_to_edition2(void)
+{
+    enter();
+    answer = kmac_to_edition2(now.store, now.edition->store_len, other_store, KMAC_STORE_2_LEN);
+    leave();
+}
+
+static void call_to_edition1(void)
+{
+    enter();
+    answer = kmac_to_edition1(now.store, now.edition->store_len, other_store, KMAC_STORE_LEN);
+    leave();
+}
+
 static void call_version(void)
 {
     enter();
@@ -180,6 +196,19 @@ static void measure_stores(const struct edition *edition)
     measure("kmac_empty_store", call_empty_store, full, 0, KMAC_STACK_EMPTY_STORE);
 }
 
+/* The full store of edition 1 there and back, and the full one of edition 2, which has no room in edition 1. */
+static void measure_conversions(void)
+{
+    static struct worst worst[WORST_COUNT], larger;
+    worst_make(&edition_1, worst);
+    measure("kmac_to_edition2", call_to_edition2, &worst[WORST_DELETES], 0, KMAC_STACK_TO_EDITION2);
+    larger.edition = &edition_2;
+    memcpy(larger.store, other_store, sizeof larger.store);
+    measure("kmac_to_edition1", call_to_edition1, &larger, 0, KMAC_STACK_TO_EDITION1);
+    worst_make(&edition_2, worst);
+    measure("kmac_to_edition1: no room", call_to_edition1, &worst[WORST_DELETES], KMAC_H14_NO_ROOM, KMAC_STACK_TO_EDITION1);
+}
+
 int main(void)
 {
     static const struct worst none;
@@ -188,6 +217,8 @@ int main(void)
     measure_stores(&edition_1);
     puts("stores of edition 2");
     measure_stores(&edition_2);
+    puts("from one edition to the other");
+    measure_conversions();
     puts("no store");
     measure("kmac_begin", call_begin, &none, 23, KMAC_STACK_BEGIN);
     measure("kmac_session_keys", call_session_keys, &none, 0, KMAC_STACK_SESSION_KEYS);
