@@ -19,7 +19,7 @@
  *     version 1   had neither KMAC_VERSION nor kmac_version.
  *
  * A call that comes new does not raise it: a host that does not make the call needs no change, and one that makes it does
- * not link with a library that lacks it. So came kmac_to_edition2 and kmac_to_edition1, in version 3.
+ * not link with a library that lacks it. kmac_to_edition2 and kmac_to_edition1 came so, within version 3.
  *
  *
  * WHAT HOLDS FOR EVERY CALL
@@ -56,15 +56,16 @@
  * TWO EDITIONS OF THE STORE
  *
  * A store of edition 1 has KMAC_STORE_LEN bytes, one of edition 2, for a larger depot, KMAC_STORE_2_LEN. Each call that
- * takes a store takes either: the length that is lent picks the edition, and the limits are that edition's. The header
- * inside must be of the same edition, or the store counts as unsound; its bytes 10 and 11 are the store's length, the first
- * byte on top. The host chooses with the length that it lends to kmac_empty_store. A depot that changes over has its store
- * written anew by kmac_to_edition2, or by kmac_to_edition1 where its keys have room there. A session is tied to no edition.
+ * takes a store takes either, but for the two conversions, which name theirs: the length that is lent picks the edition,
+ * and the limits are that edition's. The header inside must be of the same edition, or the store counts as unsound; its
+ * bytes 10 and 11 are the store's length, the first byte on top. The host chooses with the length that it lends to
+ * kmac_empty_store. A depot that changes over has its store written anew by kmac_to_edition2, or by kmac_to_edition1 where
+ * its keys have room there. A session is tied to no edition.
  *
  *
  * THE STORE OVER LOSS OF POWER
  *
- * The store is the host's, made once by kmac_empty_store. It holds keys in the clear: the host keeps others from reading
+ * The store is the host's, first made by kmac_empty_store. It holds keys in the clear: the host keeps others from reading
  * it. kmac_receive changes it in place and in many steps, so loss of power in the middle can leave half a change. The host
  * therefore never lends its only copy:
  *
@@ -82,16 +83,20 @@
  *
  *     read the kept store, and convert it into the second buffer;
  *     if the answer is 0, write that to a new file beside the old one, under another name, and flush it to the medium;
- *     rename the new file to the old one's name, in one step that replaces the old file, and flush the folder too.
+ *     rename the new file to the old one's name, in one step that replaces the old file;
+ *     flush the folder.
  *
- * Loss of power before the renaming leaves the old store, whole, and perhaps a new file that is not, which the host deletes
- * at power-on; after it, the new store stands whole. The file's length says which one it is. From the reading to the
- * renaming the host calls kmac_receive on neither store: what it changed in the old one would be lost with it.
+ * Loss of power leaves the old store or the new one, whole: until the folder is flushed either may stand under the name,
+ * then the new one; the file's length says which. A new file that was not renamed may be torn: the host deletes it at
+ * power-on. From the reading until the folder is flushed the host calls kmac_receive on neither store: what that changed
+ * in the old one would be lost. From then on it uses no copy of the old store and lends the new length: a store that is
+ * lent with the other edition's length counts as unsound. Where the conversion is refused or a step fails, the old store
+ * stays in use. The file that was replaced and both buffers hold keys in the clear.
  *
  * A store that is no longer sound is found out: kmac_find and the two conversions refuse it with H12, and kmac_receive
- * answers RESPONSE 6, which tells the key centre; its "delete all keys" makes the store empty, of the edition whose length is lent. Damage that
- * leaves the store sound, say two changed bits in one byte of a KMAC, is not found out: a host that must see it keeps a
- * checksum of its own.
+ * answers RESPONSE 6, which tells the key centre; its "delete all keys" makes the store empty, of the edition whose length
+ * is lent. Damage that leaves the store sound, say two changed bits in one byte of a KMAC, is not found out: a host that
+ * must see it keeps a checksum of its own.
  */
 #ifndef KMAC_H
 #define KMAC_H
@@ -145,7 +150,7 @@ extern "C" {
 
 /* The refusals of the house. */
 enum kmac_refusal {
-    KMAC_H1_STORE_LENGTH = -1,     /* the store buffer is neither 3,852 nor 38,012 bytes; to convert: not the one asked */
+    KMAC_H1_STORE_LENGTH = -1,     /* a store buffer is neither 3,852 nor 38,012 bytes, or not as a conversion has it */
     KMAC_H2_OUTPUT_LENGTH = -2,    /* the output buffer is under 1,032 bytes */
     KMAC_H3_SESSION_CLOSED = -3,   /* a message to a closed session */
     KMAC_H4_MESSAGE_SHORT = -4,    /* a message shorter than its header of 20 bytes */
@@ -172,8 +177,9 @@ int32_t kmac_empty_store(uint8_t *store, size_t store_len);
 /*
  * Writes a store of edition 1 (from, KMAC_STORE_LEN bytes) anew as one of edition 2 (to, KMAC_STORE_2_LEN bytes), and the
  * other way. The new store has the same keys in the same order, so that every search answers the same of both, and each
- * KMAC stands at the same place. What stood in to before is not looked at; all of it is overwritten. from is not written.
- * There and back gives the same bytes. "The store over loss of power" says how a host replaces the one by the other.
+ * KMAC stands at the same KMAC_KEY_AT(place). What stood in to before is not looked at; all of it is overwritten. from is
+ * not written, and a store is not converted in place: from and to must not overlap. There and back gives the same bytes.
+ * "The store over loss of power" says how a host replaces the one by the other.
  * Answers 0. Refuses H1 where either length is another one than that, then H12 where from is not sound in its edition. The
  * way to edition 1 then refuses H14 where from holds more than KMAC_STORE_KEYS keys or KMAC_STORE_PEERS peers; the way to
  * edition 2 has room for every sound store.

@@ -191,7 +191,8 @@ static void delete_and_end(struct centre *centre)
 
 /* ---- a larger depot */
 
-/* The store made one of edition 2, which answers the same, and back. A real host keeps the new one, as kmac.h says. */
+/* The store made one of edition 2, which answers the same, and back. A host that keeps the new one has room for it in both
+   places, and lends its length from then on; kmac.h says how it changes over. */
 static void change_over(void)
 {
     static uint8_t larger[KMAC_STORE_2_LEN], back[KMAC_STORE_LEN];
@@ -201,7 +202,7 @@ static void change_over(void)
     until(end, LATER_END);
     step("make that one of edition 1", kmac_to_edition1(larger, sizeof larger, back, sizeof back), 0);
     holds("  the same bytes", memcmp(back, kept[current], sizeof back) == 0);
-    step("the other way round", kmac_to_edition1(back, sizeof back, larger, sizeof larger), KMAC_H1_STORE_LENGTH);
+    step("the same from edition 1", kmac_to_edition1(back, sizeof back, larger, sizeof larger), KMAC_H1_STORE_LENGTH);
 }
 
 /* ---- data units */

@@ -99,24 +99,56 @@ static void hold(unsigned keys, unsigned peers)
     }
 }
 
-/* Back to edition 1, into a buffer that must be overwritten whole where the answer is 0, and must stay as it was elsewhere. */
-static int back_answers(unsigned keys, unsigned peers, int32_t answer)
+/* The first bytes of a buffer are all those that were painted. */
+static int painted(const uint8_t *buffer, size_t length)
 {
-    hold(keys, peers);
-    memset(store, 0xa5, sizeof store);
-    return to_edition1(store_2, KMAC_STORE_2_LEN, store, sizeof store) == answer && store[0] == (answer == 0 ? 0 : 0xa5) &&
-           store[sizeof store - 1] == (answer == 0 ? 0 : 0xa5);
+    return buffer[0] == 0xa5 && memcmp(buffer, buffer + 1, length - 1) == 0;
 }
 
+/* What was held goes back to edition 1 and forward again, into painted buffers, and is the same. */
+static int returns(void)
+{
+    static uint8_t before[KMAC_STORE_2_LEN];
+    memcpy(before, store_2, sizeof before);
+    memset(store, 0xa5, sizeof store);
+    int32_t back = to_edition1(store_2, KMAC_STORE_2_LEN, store, sizeof store);
+    memset(store_2, 0xa5, KMAC_STORE_2_LEN);
+    return back == 0 && to_edition2(store, sizeof store, store_2, KMAC_STORE_2_LEN) == 0 &&
+           memcmp(store_2, before, sizeof before) == 0;
+}
+
+/* A refusal leaves the painted target. */
+static int back_refuses(size_t from_length, size_t to_length, int32_t refusal)
+{
+    memset(store, 0xa5, sizeof store);
+    return to_edition1(store_2, from_length, store, to_length) == refusal && painted(store, sizeof store);
+}
+
+static int forward_refuses(size_t from_length, size_t to_length, int32_t refusal)
+{
+    memset(store_2, 0xa5, sizeof store_2);
+    return to_edition2(store, from_length, store_2, to_length) == refusal && painted(store_2, sizeof store_2);
+}
+
+/* Lengths before soundness, soundness before room. What is held has room, then not, then is unsound, as a painted store is. */
 static int conversion_answers(void)
 {
-    return to_edition2(store_2, KMAC_STORE_2_LEN, store, sizeof store) == KMAC_H1_STORE_LENGTH &&
-           to_edition2(store, sizeof store, store_2, KMAC_STORE_2_LEN + 1) == KMAC_H1_STORE_LENGTH &&
-           to_edition1(store, sizeof store, store_2, KMAC_STORE_2_LEN) == KMAC_H1_STORE_LENGTH &&
-           back_answers(KMAC_STORE_KEYS, KMAC_STORE_PEERS, 0) &&
-           to_edition2(store, sizeof store, store_2, KMAC_STORE_2_LEN) == 0 && store_2[1] == 2 &&
-           back_answers(KMAC_STORE_KEYS + 1, 0, KMAC_H14_NO_ROOM) && back_answers(1, KMAC_STORE_PEERS + 1, KMAC_H14_NO_ROOM) &&
-           back_answers(KMAC_STORE_2_KEYS + 1, 0, KMAC_H12_STORE_UNSOUND) && back_answers(0, 0, 0);
+    hold(KMAC_STORE_KEYS, KMAC_STORE_PEERS);
+    if (!returns() || !back_refuses(KMAC_STORE_LEN, KMAC_STORE_LEN, KMAC_H1_STORE_LENGTH) ||
+        !back_refuses(KMAC_STORE_2_LEN, KMAC_STORE_LEN - 1, KMAC_H1_STORE_LENGTH))
+        return 0;
+    hold(KMAC_STORE_KEYS + 1, 0);
+    if (!back_refuses(KMAC_STORE_2_LEN, KMAC_STORE_LEN, KMAC_H14_NO_ROOM))
+        return 0;
+    hold(1, KMAC_STORE_PEERS + 1);
+    if (!back_refuses(KMAC_STORE_2_LEN, KMAC_STORE_LEN, KMAC_H14_NO_ROOM))
+        return 0;
+    hold(KMAC_STORE_2_KEYS + 1, 0);
+    return back_refuses(KMAC_STORE_2_LEN, KMAC_STORE_LEN, KMAC_H12_STORE_UNSOUND) &&
+           back_refuses(KMAC_STORE_2_LEN, KMAC_STORE_LEN - 1, KMAC_H1_STORE_LENGTH) &&
+           forward_refuses(KMAC_STORE_LEN, KMAC_STORE_2_LEN + 1, KMAC_H1_STORE_LENGTH) &&
+           forward_refuses(KMAC_STORE_LEN - 1, KMAC_STORE_2_LEN, KMAC_H1_STORE_LENGTH) &&
+           forward_refuses(KMAC_STORE_LEN, KMAC_STORE_2_LEN, KMAC_H12_STORE_UNSOUND);
 }
 
 /* The session is all zero bytes at first: closed. A message of 20 bytes that is no session init closes a waiting one. */

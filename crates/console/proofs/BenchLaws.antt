@@ -15,7 +15,6 @@ use Rattle.octets.proofs.SpliceLaws.{splice-front}
 use Rattle.refusal.specs.House.{Answer, house, gives, houseNumber, unlessRefused}
 use Rattle.refusal.specs.declared.Refusal.{Refusal}
 use Rattle.refusal.proofs.Laws.{buffer-kept}
-use Rattle.store.specs.Store.{encode, entries}
 use Rattle.store.specs.Search.{emptied}
 use Rattle.store.specs.declared.Limits.{Limits}
 use Rattle.store.specs.declared.Edition.{Edition}
@@ -24,11 +23,12 @@ use Rattle.store.specs.Layout.{total, editionIn, editionOf}
 use Rattle.store.proofs.SearchLaws.{editionOf-says, known-edition}
 use Rattle.convert.specs.Convert.{answered, converted, Converts}
 use Rattle.convert.specs.declared.Converted.the-variants as converted-as
+use Rattle.convert.proofs.DoneLaws.{same-answer, same-target}
 use Rattle.lines.specs.Digits.{bytesOf, Puts}
 use Rattle.lines.specs.Words.{word}
 use Rattle.authentication.specs.Keys.{derived}
 use Rattle.console.specs.Units.{keyedBy, keysBy}
-use Rattle.console.specs.Bench.{bytesIn, limitsOf, sizeOf, storeOf, conversion, largeThen, storeThen, emptyOf, takenIn, storeIn, largeBy, largeIn, filledBy, lineBy}
+use Rattle.console.specs.Bench.{bytesIn, limitsOf, sizeOf, storeOf, targetOf, conversion, largeThen, storeThen, emptyOf, takenIn, storeIn, largeBy, largeIn, filledBy, lineBy}
 
 -- what is read of word k into an empty buffer
 pub bytes-read : (text w d : List ℕ) (k n : ℕ) → w ≡ word text k → Puts (take (length {A = ℕ} (replicate 38050 0)) (bytesOf w)) (replicate 38050 0) d n → take n d ≡ bytesIn text k
@@ -100,29 +100,30 @@ module _ (text w d : List ℕ) (n : ℕ) (e : w ≡ word text 1) (p : Puts (take
 -- ---- the store that is converted
 
 module _ (large : Bool) (n : ℕ) (s to new : List ℕ) (h : (n ≡ sizeOf (not large)) × (n ≤ 38012)) (l : n ≡ length to) where
-  -- of the target, only the length is asked
-  same-answer : conversion large s ≡ answered (limitsOf large) (limitsOf (not large)) s to
-  unfolding answered
-  same-answer = let e : length {A = ℕ} (replicate (sizeOf (not large)) 0) ≡ length to = length-replicate {A = ℕ} (sizeOf (not large)) 0 ∙ sym (h .0) ∙ l in rw e
+  target-long : length to ≡ length (targetOf large)
+  target-long = sym l ∙ h .0 ∙ sym (length-replicate {A = ℕ} (sizeOf (not large)) 0)
+
+  answer-is : answered (limitsOf large) (limitsOf (not large)) s to ≡ conversion large s
+  answer-is = same-answer (limitsOf large) (limitsOf (not large)) s to (targetOf large) target-long
 
   pub held-refused : (g : Refusal) → Converts (limitsOf large) (limitsOf (not large)) s to new (converted-as.Refused g) → (large ≡ largeThen (conversion large s) large) × (s ≡ storeThen large s)
   held-refused g c =
-      let e : house (houseNumber g) ≡ conversion large s = c .answer ∙ sym same-answer in
-      (ap (λ (x : Answer). largeThen x large) e, buffer-kept (houseNumber g) (encode (limitsOf (not large)) (entries (limitsOf large) s)) s e)
+      let e : house (houseNumber g) ≡ conversion large s = c .answer ∙ answer-is in
+      (ap (λ (x : Answer). largeThen x large) e, buffer-kept (houseNumber g) (converted (limitsOf large) (limitsOf (not large)) s (targetOf large)) s e)
 
   pub held-converted : Converts (limitsOf large) (limitsOf (not large)) s to new converted-as.Done → length new ≡ length to
       → (before after rest : List ℕ) → after ≡ splice before 0 (part (new ++ rest) 0 n)
       → (not large ≡ largeThen (conversion large s) large) × (storeOf (not large) after ≡ storeThen large s)
-  unfolding part converted
+  unfolding part
   held-converted c k before after rest q =
-      let a : gives 0 ≡ answered (limitsOf large) (limitsOf (not large)) s to = c .answer in
-      let e : gives 0 ≡ conversion large s = a ∙ sym same-answer in
-      let made : List ℕ = encode (limitsOf (not large)) (entries (limitsOf large) s) in (
+      let e : gives 0 ≡ conversion large s = c .answer ∙ answer-is in
+      let made : List ℕ = converted (limitsOf large) (limitsOf (not large)) s (targetOf large) in (
         ap (λ (x : Answer). largeThen x large) e,
         ap (λ (m : ℕ). take m after) (sym (h .0))
             ∙ ap (take n) (q ∙ ap (splice before 0) (take-at new rest n (k ∙ sym l)))
             ∙ splice-front before new n (k ∙ sym l)
-            ∙ c .target ∙ sym (ap (λ (x : Answer). unlessRefused x made to) a) ∙ ap (λ (x : Answer). unlessRefused x made s) e,
+            ∙ c .target ∙ same-target (limitsOf large) (limitsOf (not large)) s to (targetOf large) target-long (sym (c .answer))
+            ∙ ap (λ (x : Answer). unlessRefused x made s) e,
       )
 
 -- ---- the line that is read

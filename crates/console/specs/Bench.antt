@@ -15,9 +15,9 @@ use Rattle.store.specs.declared.Limits.{Limits}
 use Rattle.store.specs.declared.Edition.{Edition}
 use Rattle.store.specs.declared.Edition.the-variants.{Known, Unknown}
 use Rattle.store.specs.Layout.{total, edition1, edition2, editionOf}
-use Rattle.store.specs.Store.{encode, entries}
+use Rattle.store.specs.Store.{encode}
 use Rattle.refusal.specs.House.{Answer, house, gives, unlessRefused}
-use Rattle.convert.specs.Convert.{answered}
+use Rattle.convert.specs.Convert.{answered, converted}
 use Rattle.lines.specs.Digits.{bytesOf}
 use Rattle.lines.specs.Words.{word}
 use Rattle.lines.specs.Orders.{orderOf}
@@ -80,9 +80,12 @@ largeBy Unknown n large = large
 abbrev pub largeIn : List ℕ → Bool → Bool
 largeIn text large = largeBy (editionOf (length (bytesIn text 1))) (length (bytesIn text 1)) large
 
--- the store that is held made one of the other edition, in a buffer of zeros: what is answered
+-- the store that is held made one of the other edition: what is answered with a target of its length, of which only that is looked at
+abbrev pub targetOf : Bool → List ℕ
+targetOf large = replicate (sizeOf (not large)) 0
+
 abbrev pub conversion : Bool → List ℕ → Answer
-conversion large s = answered (limitsOf large) (limitsOf (not large)) s (replicate (sizeOf (not large)) 0)
+conversion large s = answered (limitsOf large) (limitsOf (not large)) s (targetOf large)
 
 -- whether edition 2 is held then, and the store; a refusal leaves both
 abbrev pub largeThen : Answer → Bool → Bool
@@ -90,7 +93,7 @@ largeThen (gives n) large = not large
 largeThen (house n) large = large
 
 abbrev pub storeThen : Bool → List ℕ → List ℕ
-storeThen large s = unlessRefused (conversion large s) (encode (limitsOf (not large)) (entries (limitsOf large) s)) s
+storeThen large s = unlessRefused (conversion large s) (converted (limitsOf large) (limitsOf (not large)) s (targetOf large)) s
 
 -- what the message in a line does to the store that is held
 abbrev pub received : Session → List ℕ → Bool → List ℕ → Outcome

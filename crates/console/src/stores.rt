@@ -90,7 +90,7 @@ fn said(done: &[u8], large: bool) {
     }
 }
 
-// The same of the edition that is chosen.
+// Makes the empty store of the edition that is chosen.
 pub fn choose(large: bool, store: &mut [u8])
     requires { ⌜ length (now store) ≡ 38012 ⌝ }
     ensures { λ _. ⌜ storeOf large (now (store .exit)) ≡ emptyOf large ⌝ }

@@ -55,6 +55,18 @@ pub is-done : (F T : Limits) (from to : List ℕ) → length from ≡ total F �
 unfolding answered
 is-done F T from to a b c d = rw (eq-eqb (length from) (total F) a, eq-eqb (length to) (total T) b, c, d)
 
+-- ---- the target before
+
+module _ (F T : Limits) (from to to' : List ℕ) (l : length to ≡ length to') where
+  pub same-answer : answered F T from to ≡ answered F T from to'
+  unfolding answered
+  same-answer = rw l
+
+  pub same-target : answered F T from to ≡ gives 0 → converted F T from to ≡ converted F T from to'
+  same-target e = done-says F T from to e .made ∙ sym (done-says F T from to' (sym same-answer ∙ e) .made)
+
+-- ---- the target afterwards
+
 module _ (F T : Limits) (from to : List ℕ) (bounded : Bounded T) (bytes : Bytes from) (e : answered F T from to ≡ gives 0) where
   went : Done F T from to
   went = done-says F T from to e

@@ -17,11 +17,11 @@ use Rattle.store.proofs.SoundLaws.{Sound, sound-says}
 use Rattle.store.proofs.DecodeLaws.{entries-length, peers-length}
 use Rattle.store.proofs.SearchLaws.{editionOf-says}
 use Rattle.convert.specs.Convert.{answered, converted, convertedAs}
-use Rattle.convert.specs.Claims.{SameEntries, ThereAndBack, ForwardAlways, RefusedWritesNothing, LengthExactly, UnsoundExactly, TooMany, NoRoomExactly, SameSearch, OneAnswer}
+use Rattle.convert.specs.Claims.{SameEntries, ThereAndBack, ForwardAlways, TargetNotJudged, RefusedWritesNothing, LengthExactly, UnsoundExactly, TooMany, NoRoomExactly, SameSearch, OneAnswer}
 use Rattle.convert.specs.declared.Converted.{Converted}
 use Rattle.convert.specs.declared.Converted.the-variants as converted-as
 use Rattle.convert.proofs.ConvertLaws.{room-holds}
-use Rattle.convert.proofs.DoneLaws.{Done, done-says, is-done, made-sound, same, returns, same-found}
+use Rattle.convert.proofs.DoneLaws.{Done, done-says, is-done, same-answer, same-target, made-sound, same, returns, same-found}
 use Rattle.convert.proofs.RefusedLaws.{of-source, of-target, is-unsound, other-header, is-full, Long, Why, source-length, target-length, unsound, full, why, too-many, room-none}
 
 known1 : editionOf (total edition1) ≡ Known edition1
@@ -66,6 +66,9 @@ same-search =
       to-edition2 = λ from to b e. same-found edition1 edition2 from to bounded2 b e known1 known2;
       to-edition1 = λ from to b e. same-found edition2 edition1 from to bounded1 b e known2 known1;
     }
+
+pub target-not-judged : TargetNotJudged
+target-not-judged = record { same-answer = same-answer; same-target = same-target }
 
 -- ---- refused
 

@@ -38,7 +38,12 @@ pub record ThereAndBack : Type 0 where
 pub record ForwardAlways : Type 0 where
   pub done : (from to : List ℕ) → sound edition1 from ≡ true → length to ≡ total edition2 → answered edition1 edition2 from to ≡ gives 0
 
--- a refusal writes nothing
+-- of the target before, only the length is looked at: neither the answer nor what is made depends on what stood there
+pub record TargetNotJudged : Type 0 where
+  pub same-answer : (F T : Limits) (from to to' : List ℕ) → length to ≡ length to' → answered F T from to ≡ answered F T from to'
+  pub same-target : (F T : Limits) (from to to' : List ℕ) → length to ≡ length to' → answered F T from to ≡ gives 0 → converted F T from to ≡ converted F T from to'
+
+-- a refusal writes nothing: the target stays, and the source is lent to be read
 pub record RefusedWritesNothing : Type 0 where
   pub kept : (F T : Limits) (from to : List ℕ) (n : ℕ) → answered F T from to ≡ house n → converted F T from to ≡ to
 

@@ -45,15 +45,16 @@ fn write(from: &[u8], source: Limits, to: &mut [u8], target: Limits)
 {
     let n = number_at(from, 2);
     let m = number_at(from, 6);
-    let old = KEYS_AT + RECORD * source.keys;
-    let new = KEYS_AT + RECORD * target.keys;
+    let peers_from = KEYS_AT + RECORD * source.keys;
+    let peers_to = KEYS_AT + RECORD * target.keys;
     write_empty(to, target);
     put_number(to, 2, n);
     put_number(to, 6, m);
     copy(to, KEYS_AT, from, KEYS_AT, RECORD * n);
-    copy(to, new, from, old, PEER * m);
+    copy(to, peers_to, from, peers_from, PEER * m);
 }
 
+// Makes a store of the source's edition one of the target's.
 fn convert(from: &[u8], source: Limits, to: &mut [u8], target: Limits) -> Converted
     requires { ⌜ (Bounded source) × (Bounded target) ⌝ }
     ensures { λ r. ⌜ Converts source target (now (from .entry)) (now (to .entry)) (now (to .exit)) r ⌝ }
@@ -74,14 +75,14 @@ fn convert(from: &[u8], source: Limits, to: &mut [u8], target: Limits) -> Conver
     Converted::Done
 }
 
-// Makes a store of edition 1 one of edition 2, with the same entries in the same order.
+// Makes a store of edition 1 one of edition 2, with the same entries in the same order. Refuses H1, H12.
 pub fn to_edition2(from: &[u8], to: &mut [u8]) -> Converted
     ensures { λ r. ⌜ Converts edition1 edition2 (now (from .entry)) (now (to .entry)) (now (to .exit)) r ⌝ }
 {
     convert(from, EDITION_1, to, EDITION_2)
 }
 
-// Makes a store of edition 2 one of edition 1, where its keys and peers have room there.
+// The same from edition 2 to edition 1. Refuses H1, H12, and H14 where its keys or peers have no room there.
 pub fn to_edition1(from: &[u8], to: &mut [u8]) -> Converted
     ensures { λ r. ⌜ Converts edition2 edition1 (now (from .entry)) (now (to .entry)) (now (to .exit)) r ⌝ }
 {

@@ -1,4 +1,4 @@
--- The numbers of the house's refusals (document 01, "Refusals of the house"), and what a call answers in the paper's numbers.
+-- The numbers of the house's refusals (document 01, "Refusals of the house"; document 02, change request 6), and what a call answers in the paper's numbers.
 -- Assumes nothing.
 use mathlib.Core.Bool.{Bool, true, false}
 use mathlib.Core.List.{List}

@@ -1,4 +1,4 @@
-// The refusals of the house (document 01, "Refusals of the house").
+// The refusals of the house (document 01, "Refusals of the house"; H14 is of document 02, change request 6).
 ghost use mathlib.Core.Path.{_≡_};
 ghost use Rattle.refusal.specs.House.{houseNumber};
 
@@ -33,7 +33,7 @@ pub enum Refusal {
     NoRoom,
 }
 
-// The number that document 01 gives the refusal.
+// The number that the papers give the refusal.
 pub fn house_number(h: Refusal) -> u8
     ensures { λ r. ⌜ r ≡ houseNumber h ⌝ }
 {

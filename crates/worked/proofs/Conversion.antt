@@ -47,23 +47,25 @@ abbrev with-peers : ℕ → List Entry
 with-peers n = record { issuer = 1; serial = 7; kmac = replicate 24 1; start = 5; end = 9; peers = replicate n 3 } ∷ []
 
 -- 64 keys have room in edition 1, and 65 do not
-room : List Bool
+abbrev room : List Bool
 room = hasRoom edition1 (keys 64) ∷ hasRoom edition1 (keys 65) ∷ hasRoom edition2 (keys 65) ∷ []
 
-rooms : room ≡ true ∷ false ∷ true ∷ []
-unfolding room hasRoom keys peersOf
-rooms = refl
+room-is : room ≡ true ∷ false ∷ true ∷ []
+unfolding hasRoom keys peersOf
+room-is = refl
 
--- 256 peers go back and 257 do not; the lengths exchanged, and the header of the other edition
+-- 256 peers go back and 257 do not; a store that says it holds 257 peers and no key; the lengths exchanged, two of edition 1, and the header of edition 2 in
+-- a store of edition 1's length
 abbrev answers : List Answer
 answers =
     answered edition2 edition1 (encode edition2 (with-peers 256)) small
     ∷ answered edition2 edition1 (encode edition2 (with-peers 257)) small
+    ∷ answered edition2 edition1 (0 ∷ 2 ∷ 0 ∷ 0 ∷ 0 ∷ 12 ∷ 1 ∷ 1 ∷ 0x55 ∷ 0xfc ∷ 0x94 ∷ 0x7c ∷ replicate 38000 0) small
     ∷ answered edition1 edition2 large small
     ∷ answered edition1 edition2 small small
     ∷ answered edition1 edition2 (0 ∷ 2 ∷ 0 ∷ 2 ∷ 0 ∷ 12 ∷ 0 ∷ 3 ∷ 0x55 ∷ 0xfc ∷ 0x94 ∷ 0x7c ∷ records ++ (replicate (44 * 62) 0 ++ (peers ++ replicate (4 * 253) 0))) large
     ∷ []
 
-answers-are : answers ≡ gives 0 ∷ house 14 ∷ house 1 ∷ house 1 ∷ house 12 ∷ []
+answers-are : answers ≡ gives 0 ∷ house 14 ∷ house 12 ∷ house 1 ∷ house 1 ∷ house 12 ∷ []
 unfolding answered hasRoom encode header keyRecord keyRecords peersOf words numbers entries entriesFrom sound allHold headerOk countsOk sumBefore sumsOk newKey uniqueOk allOdd parityOk unusedOk allBelow allZero part ones onesIn
 answers-are = refl

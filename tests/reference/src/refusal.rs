@@ -1,4 +1,4 @@
-//! Refusals of the house (01). Each constant has the number of its name.
+//! Refusals of the house (01, and H14 of 02). Each constant has the number of its name.
 
 /// The store buffer has the length of neither edition: 3,852 or 38,012 bytes. Of the two that a
 /// conversion is lent, one has not the length of its side's edition.

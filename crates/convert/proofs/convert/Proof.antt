@@ -1,17 +1,38 @@
 -- `convert::convert` meets its contract.
 -- Assumes nothing.
-use mathlib.Core.Path.{sym, _∙_}
+use mathlib.Core.Path.{_≡_, sym, _∙_}
+use mathlib.Core.Bool.{true}
 use Prim.Native.Nat.{_-_}
 use native.Mathlib.Omega.{arith}
 use lib.ListN.{length}
+use lib.Dec.{eqb}
 use borrow.Author.Tests.{eqb-true}
 use Rattle.octets.proofs.BoolLaws.{test-holds, test-fails}
 use Rattle.store.specs.Layout.{total}
+use Rattle.store.specs.Store.{sound}
 use Rattle.store.proofs.SoundLaws.{sound-says}
 use Rattle.convert.proofs.ConvertLaws.{counts-decide, wrong-source, wrong-target, unsound, no-room, done}
 use borrow.Author.Needs.{needs}
 use Rattle.convert.proofs.convert.Statement.{statement}
 use Rattle.convert.proofs.convert.Tie as tie
+
+-- what the first three tests have told once the counts are asked
+passed : (four : tie.After-counts-ok)
+    → let two = four .before .before .before .before in
+    let one = two .before .before .before in
+    let a = one .before .before .before .args in
+    (eqb (length (a .from .now)) (total (a .source)) ≡ true) × (eqb (length (a .to .now)) (total (a .target)) ≡ true) × (sound (a .source) (a .from .now) ≡ true)
+passed four =
+    let if3 = four .before in
+    let three = if3 .before in
+    let if2 = three .before in
+    let two = if2 .before in
+    let if1 = two .before .before in
+    let one = if1 .before in (
+      test-holds (one .has-length .result) (one .has-length .ensures) (if1 .if1 .left),
+      test-holds (two .has-length2 .result) (two .has-length2 .ensures) (if2 .if2 .left),
+      test-holds (three .is-sound .result) (three .is-sound .ensures) (if3 .if3 .left),
+    )
 
 has-length-requires : tie.Need-has-length-requires
 has-length-requires c κs = search needs
@@ -58,7 +79,9 @@ returns-3 c =
 counts-ok-requires : tie.Need-counts-ok-requires
 counts-ok-requires c κs =
     let three = c .before in
-    let a = three .before .before .before .before .before .before .before .before .args in
+    let two = three .before .before in
+    let one = two .before .before .before in
+    let a = one .before .before .before .args in
     let w = sound-says (a .source) (a .from .now) (test-holds (three .is-sound .result) (three .is-sound .ensures) (c .if3 .left)) in
     omega (arith, w .size)
 
@@ -68,33 +91,23 @@ same-length-3 c = search needs
 returns-4 : tie.Need-returns-4
 returns-4 c =
     let four = c .before in
-    let if3 = four .before in
-    let three = if3 .before in
-    let if2 = three .before in
-    let two = if2 .before in
-    let if1 = two .before .before in
-    let one = if1 .before in
+    let two = four .before .before .before .before in
+    let one = two .before .before .before in
     let a = one .before .before .before .args in
-    let p = test-holds (one .has-length .result) (one .has-length .ensures) (if1 .if1 .left) in
-    let q = test-holds (two .has-length2 .result) (two .has-length2 .ensures) (if2 .if2 .left) in
-    let r = test-holds (three .is-sound .result) (three .is-sound .ensures) (if3 .if3 .left) in
+    let t = passed four in
     let full = test-fails (four .counts-ok .result) (four .counts-ok .ensures) (c .if4 .taken) in
-    no-room (a .source) (a .target) (a .from .now) (a .to .now) p q r (sym (counts-decide (a .source) (a .target) (a .from .now) r) ∙ full)
+    no-room (a .source) (a .target) (a .from .now) (a .to .now) (t .0) (t .1) (t .2) (sym (counts-decide (a .source) (a .target) (a .from .now) (t .2)) ∙ full)
 
 write-requires : tie.Need-write-requires
 write-requires c κs =
-    let if4 = c .before in
-    let four = if4 .before in
-    let if3 = four .before in
-    let three = if3 .before in
-    let if2 = three .before in
-    let two = if2 .before in
-    let start = two .before .before .before .before .before .before in
+    let four = c .before .before in
+    let two = four .before .before .before .before in
+    let one = two .before .before .before in
+    let start = one .before .before .before in
     let a = start .args in
-    let q = eqb-true (length (a .to .now)) (total (a .target)) (test-holds (two .has-length2 .result) (two .has-length2 .ensures) (if2 .if2 .left)) in
-    let r = test-holds (three .is-sound .result) (three .is-sound .ensures) (if3 .if3 .left) in
-    let room = sym (counts-decide (a .source) (a .target) (a .from .now) r) ∙ test-holds (four .counts-ok .result) (four .counts-ok .ensures) (if4 .if4 .left) in
-    ((start .pre .0, start .pre .1, q), (r, room))
+    let t = passed four in
+    let room = test-holds (four .counts-ok .result) (four .counts-ok .ensures) (c .before .if4 .left) in
+    ((start .pre .0, start .pre .1, eqb-true (length (a .to .now)) (total (a .target)) (t .1)), (t .2, sym (counts-decide (a .source) (a .target) (a .from .now) (t .2)) ∙ room))
 
 same-length-4 : tie.Need-same-length-4
 same-length-4 c = search needs
@@ -104,18 +117,12 @@ returns-5 c =
     let written = c .before .before in
     let if4 = written .before .before in
     let four = if4 .before in
-    let if3 = four .before in
-    let three = if3 .before in
-    let if2 = three .before in
-    let two = if2 .before in
-    let if1 = two .before .before in
-    let one = if1 .before in
+    let two = four .before .before .before .before in
+    let one = two .before .before .before in
     let a = one .before .before .before .args in
-    let p = test-holds (one .has-length .result) (one .has-length .ensures) (if1 .if1 .left) in
-    let q = test-holds (two .has-length2 .result) (two .has-length2 .ensures) (if2 .if2 .left) in
-    let r = test-holds (three .is-sound .result) (three .is-sound .ensures) (if3 .if3 .left) in
-    let room = sym (counts-decide (a .source) (a .target) (a .from .now) r) ∙ test-holds (four .counts-ok .result) (four .counts-ok .ensures) (if4 .if4 .left) in
-    done (a .source) (a .target) (a .from .now) (a .to .now) p q r room (written .write .last .1 .1 .0) (written .write .ensures)
+    let t = passed four in
+    let room = test-holds (four .counts-ok .result) (four .counts-ok .ensures) (if4 .if4 .left) in
+    done (a .source) (a .target) (a .from .now) (a .to .now) (t .0) (t .1) (t .2) (sym (counts-decide (a .source) (a .target) (a .from .now) (t .2)) ∙ room) (written .write .last .1 .1 .0) (written .write .ensures)
 
 pub convert-spec : {M : Type 1} → statement M
 convert-spec =

@@ -22,17 +22,17 @@ number-at-requires-2 c κs =
     let w = sound-says (start .args .source) (start .args .from .now) (start .pre .1 .0) in
     omega (arith, w .size)
 
-mul-old : tie.Need-mul-old
-mul-old c = search needs
+mul-peers-from : tie.Need-mul-peers-from
+mul-peers-from c = search needs
 
-add-old : tie.Need-add-old
-add-old c = search needs
+add-peers-from : tie.Need-add-peers-from
+add-peers-from c = search needs
 
-mul-new : tie.Need-mul-new
-mul-new c = search needs
+mul-peers-to : tie.Need-mul-peers-to
+mul-peers-to c = search needs
 
-add-new : tie.Need-add-new
-add-new c = search needs
+add-peers-to : tie.Need-add-peers-to
+add-peers-to c = search needs
 
 write-empty-requires : tie.Need-write-empty-requires
 write-empty-requires c κs = search needs
@@ -106,10 +106,10 @@ write-spec =
     (tie.spec
     number-at-requires
     number-at-requires-2
-    mul-old
-    add-old
-    mul-new
-    add-new
+    mul-peers-from
+    add-peers-from
+    mul-peers-to
+    add-peers-to
     write-empty-requires
     put-number-requires
     put-number-requires-2

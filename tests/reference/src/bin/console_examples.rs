@@ -435,21 +435,19 @@ fn repeated_end() {
 
 fn convert() {
     println!("# A depot changes over to edition 2 of the store, and back, and its keys go with it. Its tug is 02e6a541, the centre 05000017.");
-    println!("# The radio block centre of key nn is 010001nn, nn being the number in decimal; show prints serials in hex.");
+    println!("# The radio block centre of key nn is 010001nn at first, nn being the number in decimal; show prints serials in hex.");
     println!("# The store is of edition 1. The centre brings three keys.");
     let mut session = Session::open(TUG, 1, 100);
     session.send(kind::ADD_KEYS, &keys_for(&[FIRST_RAILWAY], 1..=3));
-    println!("# Until when does key 2 fit? And session keys from it.");
+    println!("# Until when does key 2 fit?");
     search(centre_of(FIRST_RAILWAY, 2), NOON);
-    keys(2);
     println!("# The store becomes one of edition 2, with the same records in the same order.");
     println!("convert\nshow");
-    println!(
-        "# The same search has the same answer, and a unit under the session keys is accepted."
-    );
+    println!("# The same search has the same answer, and under session keys from there a unit of the radio block centre is accepted.");
     search(centre_of(FIRST_RAILWAY, 2), NOON);
+    keys(2);
     check_line(TUG, 0, &unit(&kmac(2), TUG, false, b"proceed"));
-    println!("# Back in edition 1 the search has it too.");
+    println!("# Back in edition 1 the search has the same answer too.");
     println!("convert");
     search(centre_of(FIRST_RAILWAY, 2), NOON);
     println!("show");
@@ -479,7 +477,7 @@ fn too_many_peers(session: &mut Session) {
     let list: Vec<Identity> = (1..=194).map(|n| [0x01, SECOND_RAILWAY, 0x01, n]).collect();
     let of_many = requests(&[entities(2, &list)]);
     session.send(kind::UPDATE_KEY_ENTITIES, &of_many);
-    println!("# In edition 2 the same is done, and then there is no way back: H14.");
+    println!("# In edition 2 the same request has RESULT 0, and then there is no way back: H14.");
     println!("convert");
     session.send(kind::UPDATE_KEY_ENTITIES, &of_many);
     println!("convert");

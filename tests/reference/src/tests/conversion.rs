@@ -98,11 +98,6 @@ fn a_full_store_of_edition_1_goes_forward() {
     assert_eq!(decode(&to), Some(list));
 }
 
-#[test]
-fn the_empty_stores_are_each_others() {
-    assert_there_and_back(&[]);
-}
-
 /// Two records with three peers, byte by byte: records stay at 12, and the peers move.
 #[test]
 fn where_records_and_peers_stand_afterwards() {
