@@ -141,8 +141,20 @@ pub unsafe extern "C" fn reference_check(
     ))
 }
 
+/// A conversion of the second program, as the library answers it.
+///
 /// # Safety
 /// `from` and `to` point to as many bytes as the length behind each says, and do not overlap.
+unsafe fn converted(
+    convert: fn(&[u8], &mut [u8]) -> Result<(), u8>,
+    (from, from_len): (*const u8, usize),
+    (to, to_len): (*mut u8, usize),
+) -> i32 {
+    code(convert(lent(from, from_len), lent_mut(to, to_len)).map(|()| 0))
+}
+
+/// # Safety
+/// As `converted` has it.
 #[no_mangle]
 pub unsafe extern "C" fn reference_to_edition1(
     from: *const u8,
@@ -150,12 +162,11 @@ pub unsafe extern "C" fn reference_to_edition1(
     to: *mut u8,
     to_len: usize,
 ) -> i32 {
-    let (from, to) = (lent(from, from_len), lent_mut(to, to_len));
-    code(conversion::to_edition_1(from, to).map(|()| 0))
+    converted(conversion::to_edition_1, (from, from_len), (to, to_len))
 }
 
 /// # Safety
-/// `from` and `to` point to as many bytes as the length behind each says, and do not overlap.
+/// As `converted` has it.
 #[no_mangle]
 pub unsafe extern "C" fn reference_to_edition2(
     from: *const u8,
@@ -163,6 +174,5 @@ pub unsafe extern "C" fn reference_to_edition2(
     to: *mut u8,
     to_len: usize,
 ) -> i32 {
-    let (from, to) = (lent(from, from_len), lent_mut(to, to_len));
-    code(conversion::to_edition_2(from, to).map(|()| 0))
+    converted(conversion::to_edition_2, (from, from_len), (to, to_len))
 }
