@@ -20,7 +20,7 @@ use Rattle.store.specs.Layout.{total, peersAt}
 use Rattle.store.specs.Store.{Entry, header, keyRecords, peersOf, encode, entries, countsOk, sound, keyCount, peerCount}
 use Rattle.store.specs.WellFormed.{WellFormed}
 use Rattle.store.specs.declared.Limits.{Limits}
-use Rattle.store.proofs.SoundLaws.{sound-says}
+use Rattle.store.proofs.SoundLaws.{Sound, sound-says}
 use Rattle.store.proofs.DecodeLaws.{entries-length, peers-length, encode-entries}
 use Rattle.store.proofs.EncodingLaws.{fitting-long, header-length, keyRecords-length}
 use Rattle.store.proofs.WellFormedLaws.{sound-wellFormed}
@@ -51,6 +51,18 @@ counts-decide F T from h =
     ap₂ (λ (n m : ℕ). leb n (T .keys) && leb m (T .peers)) (sym (entries-length F from)) (sym (peers-length F from (sound-says F from h)))
 
 -- ---- the bytes
+
+-- what is copied lies in the source, and has its place in a target of the right length
+module _ (F T : Limits) (from t : List ℕ) (h : sound F from ≡ true) (d : hasRoom T (entries F from) ≡ true) (long : length t ≡ total T) where
+  pub records-lie : (n : ℕ) → n ≡ keyCount from → (12 + 44 * n ≤ length t) × (12 + 44 * n ≤ length from)
+  records-lie n e =
+      let w : Sound F from = sound-says F from h in
+      (omega (arith, room-says T (entries F from) d .keys-fit, entries-length F from), omega (arith, w .size, w .keys-fit))
+
+  pub peers-lie : (m : ℕ) → m ≡ peerCount from → (peersAt T + 4 * m ≤ length t) × (peersAt F + 4 * m ≤ length from)
+  peers-lie m e =
+      let w : Sound F from = sound-says F from h in
+      (omega (arith, room-says T (entries F from) d .peers-fit, peers-length F from w), omega (arith, w .size, w .peers-fit))
 
 header-put : (L : Limits) (n m : ℕ) (r : List ℕ) → splice (splice (header L 0 0 ++ r) 2 (be16 n)) 6 (be16 m) ≡ header L n m ++ r
 unfolding splice header

@@ -1,14 +1,30 @@
 -- `convert::write` meets its contract.
 -- Assumes nothing.
+use mathlib.Core.Path.{_≡_, _∙_}
 use native.Mathlib.Omega.{arith}
 use Prim.Native.Nat.{_-_}
+use lib.ListN.{length}
+use Rattle.store.specs.Layout.{total}
 use Rattle.store.specs.Store.{entries}
 use Rattle.store.proofs.SoundLaws.{sound-says}
-use Rattle.store.proofs.DecodeLaws.{entries-length, peers-length}
-use Rattle.convert.proofs.ConvertLaws.{room-says, copied}
+use Rattle.convert.proofs.ConvertLaws.{room-says, records-lie, peers-lie, copied}
 use borrow.Author.Needs.{needs}
 use Rattle.convert.proofs.write.Statement.{statement}
 use Rattle.convert.proofs.write.Tie as tie
+
+-- where both counts are read
+abbrev counted : tie.After-put-number2 → tie.After-number-at2
+counted put2 =
+    let put = put2 .before .before .before .before in
+    let empty = put .before .before .before .before in
+    empty .before .before .before .before
+
+-- the header once written, the target is as long as it was
+long : (put2 : tie.After-put-number2) → length (put2 .put-number2 .last .0) ≡ total (counted put2 .before .before .before .before .args .target)
+long put2 =
+    let put = put2 .before .before .before .before in
+    let empty = put .before .before .before .before in
+    put2 .put-number2 .kept .0 ∙ put .put-number .kept .0 ∙ empty .write-empty .kept .0 ∙ counted put2 .before .before .before .before .pre .0 .2
 
 number-at-requires : tie.Need-number-at-requires
 number-at-requires c κs =
@@ -49,19 +65,11 @@ mul-copy c = search needs
 copy-requires : tie.Need-copy-requires
 copy-requires c κs =
     let put2 = c .before .before .before in
-    let put = put2 .before .before .before .before in
-    let empty = put .before .before .before .before in
-    let m = empty .before .before .before .before in
+    let m = counted put2 in
     let n = m .before in
     let start = n .before .before .before in
     let a = start .args in
-    let w = sound-says (a .source) (a .from .now) (start .pre .1 .0) in
-    let r = room-says (a .target) (entries (a .source) (a .from .now)) (start .pre .1 .1) in
-    let en = entries-length (a .source) (a .from .now) in
-    let em = peers-length (a .source) (a .from .now) w in (
-      omega (arith, put2 .put-number2 .kept .0, put .put-number .kept .0, empty .write-empty .kept .0, start .pre .0 .2, r .keys-fit, en, n .number-at .ensures .0),
-      omega (arith, w .size, w .keys-fit, n .number-at .ensures .0),
-    )
+    records-lie (a .source) (a .target) (a .from .now) (put2 .put-number2 .last .0) (start .pre .1 .0) (start .pre .1 .1) (long put2) (n .number-at .result) (n .number-at .ensures .0)
 
 mul-copy-2 : tie.Need-mul-copy-2
 mul-copy-2 c = search needs
@@ -70,19 +78,11 @@ copy-requires-2 : tie.Need-copy-requires-2
 copy-requires-2 c κs =
     let copy = c .before .before .before in
     let put2 = copy .before .before .before .before in
-    let put = put2 .before .before .before .before in
-    let empty = put .before .before .before .before in
-    let m = empty .before .before .before .before in
+    let m = counted put2 in
     let n = m .before in
     let start = n .before .before .before in
     let a = start .args in
-    let w = sound-says (a .source) (a .from .now) (start .pre .1 .0) in
-    let r = room-says (a .target) (entries (a .source) (a .from .now)) (start .pre .1 .1) in
-    let en = entries-length (a .source) (a .from .now) in
-    let em = peers-length (a .source) (a .from .now) w in (
-      omega (arith, copy .copy .kept .0, put2 .put-number2 .kept .0, put .put-number .kept .0, empty .write-empty .kept .0, start .pre .0 .2, r .peers-fit, em, m .number-at2 .ensures .0),
-      omega (arith, w .size, w .peers-fit, m .number-at2 .ensures .0),
-    )
+    peers-lie (a .source) (a .target) (a .from .now) (copy .copy .last .0) (start .pre .1 .0) (start .pre .1 .1) (copy .copy .kept .0 ∙ long put2) (m .number-at2 .result) (m .number-at2 .ensures .0)
 
 same-length : tie.Need-same-length
 same-length c = search needs
@@ -94,7 +94,7 @@ returns c =
     let put2 = copy .before .before .before .before in
     let put = put2 .before .before .before .before in
     let empty = put .before .before .before .before in
-    let m = empty .before .before .before .before in
+    let m = counted put2 in
     let n = m .before in
     let start = n .before .before .before in
     let a = start .args in
