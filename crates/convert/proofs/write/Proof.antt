@@ -69,7 +69,8 @@ copy-requires c κs =
     let n = m .before in
     let start = n .before .before .before in
     let a = start .args in
-    records-lie (a .source) (a .target) (a .from .now) (put2 .put-number2 .last .0) (start .pre .1 .0) (start .pre .1 .1) (long put2) (n .number-at .result) (n .number-at .ensures .0)
+    let l = records-lie (a .source) (a .target) (a .from .now) (put2 .put-number2 .last .0) (start .pre .1 .0) (start .pre .1 .1) (long put2) (n .number-at .result) (n .number-at .ensures .0) in
+    (omega (arith, l .0), omega (arith, l .1))
 
 mul-copy-2 : tie.Need-mul-copy-2
 mul-copy-2 c = search needs
@@ -82,7 +83,8 @@ copy-requires-2 c κs =
     let n = m .before in
     let start = n .before .before .before in
     let a = start .args in
-    peers-lie (a .source) (a .target) (a .from .now) (copy .copy .last .0) (start .pre .1 .0) (start .pre .1 .1) (copy .copy .kept .0 ∙ long put2) (m .number-at2 .result) (m .number-at2 .ensures .0)
+    let l = peers-lie (a .source) (a .target) (a .from .now) (copy .copy .last .0) (start .pre .1 .0) (start .pre .1 .1) (copy .copy .kept .0 ∙ long put2) (m .number-at2 .result) (m .number-at2 .ensures .0) in
+    (omega (arith, l .0), omega (arith, l .1))
 
 same-length : tie.Need-same-length
 same-length c = search needs
