@@ -1,7 +1,7 @@
 -- What holds where a conversion is done: the target is sound, its entries and every search are those of the source, and the way back gives the same bytes.
 -- Assumes nothing.
 use mathlib.Core.Path.{_≡_, refl, sym, ap, _∙_}
-use mathlib.Core.Bool.{Bool, true}
+use mathlib.Core.Bool.{true}
 use mathlib.Core.List.{List}
 use Prim.Native.Nat.{ℕ, _-_}
 use lib.ListN.{length, getD}
@@ -29,7 +29,6 @@ use Rattle.convert.proofs.ConvertLaws.{Room, room-says, room-holds}
 -- what has passed every test, and what was made
 pub record Done (F T : Limits) (from to : List ℕ) : Type 0 where
   pub from-long : length from ≡ total F
-  pub to-long : length to ≡ total T
   pub sound-is : sound F from ≡ true
   pub room : Room T (entries F from)
   pub made : converted F T from to ≡ encode T (entries F from)
@@ -44,7 +43,6 @@ done-says F T from to e =
     let d = asks-gives (hasRoom T (entries F from)) 14 (gives 0) 0 (c .1) in
     record {
       from-long = eqb-true (length from) (total F) (a .0);
-      to-long = eqb-true (length to) (total T) (b .0);
       sound-is = c .0;
       room = room-says T (entries F from) (d .0);
       made = ap (λ (x : Answer). unlessRefused x (encode T (entries F from)) to) e;

@@ -21,8 +21,8 @@ use Rattle.convert.specs.Claims.{SameEntries, ThereAndBack, ForwardAlway
 use Rattle.convert.specs.declared.Converted.{Converted}
 use Rattle.convert.specs.declared.Converted.the-variants as converted-as
 use Rattle.convert.proofs.ConvertLaws.{room-holds}
-use Rattle.convert.proofs.DoneLaws.{Done, done-says, is-done, same-answer, same-target, made-sound, same, returns, same-found}
-use Rattle.convert.proofs.RefusedLaws.{of-source, of-target, is-unsound, other-header, is-full, Long, Why, source-length, target-length, unsound, full, why, too-many, room-none}
+use Rattle.convert.proofs.DoneLaws.{is-done, same-answer, same-target, made-sound, same, returns, same-found}
+use Rattle.convert.proofs.RefusedLaws.{of-source, of-target, is-unsound, other-header, is-full, Why, source-length, target-length, unsound, full, why, too-many, room-none}
 
 known1 : editionOf (total edition1) ≡ Known edition1
 unfolding editionOf editionIn

@@ -84,7 +84,8 @@ same-length-4 c = search needs
 returns-2 : tie.Need-returns-2
 returns-2 c =
     let told = c .before .before .h .given in
-    let made = c .before .before .before .before .before .before in
+    let match = c .before .before .before in
+    let made = match .before .before .before in
     let of = made .before .before in
     let size = of .before .before in
     let start = size .before .before .before in

@@ -11,7 +11,7 @@ use Rattle.lines.specs.declared.orders.Order.{Order}
 use Rattle.lines.specs.declared.orders.Order.the-variants as order
 use Rattle.console.specs.declared.bench.Bench.{Bench}
 use Rattle.console.specs.Units.{soundKmac, keyedBy, keysBy}
-use Rattle.console.specs.Bench.{storeOf, heldAt, obeyed, Leaves}
+use Rattle.console.specs.Bench.{storeOf, heldAt, withStore, obeyed, Leaves}
 use borrow.Author.Needs.{needs}
 use Rattle.console.proofs.bench.Bench.obey.Statement.{statement}
 use Rattle.console.proofs.bench.Bench.obey.Tie as tie
@@ -20,8 +20,10 @@ use Rattle.console.proofs.bench.Bench.obey.Tie as tie
 abbrev changed : Bench → Session → Bool → Bool → Bench
 changed b e large held = record { session = e; large = large; held = held; line = b .line; filled = b .filled; more = b .more }
 
-store-as : {l m : Bool} (t v : List ℕ) → l ≡ m → storeOf l t ≡ v → storeOf m t ≡ v
-store-as t v e h = ap (λ (x : Bool). storeOf x t) (sym e) ∙ h
+-- another edition and its store, and all else as it was
+with-store : (b : Bench) (s k t v : List ℕ) {l m : Bool} → l ≡ m → storeOf l t ≡ v → Leaves (withStore m v (heldAt b s k)) b (changed b (b .session) l (b .held)) t k
+with-store b s k t v e h =
+    record { bench-is = ap (λ (x : Bool). changed b (b .session) x (b .held)) e; store-is = ap (λ (x : Bool). storeOf x t) (sym e) ∙ h; keys-are = refl }
 
 module _ (k : tie.After-read) where
   -- what is left where the line asks the order o
@@ -228,13 +230,9 @@ returns-9 : tie.Need-returns-9
 returns-9 c =
     let take = c .before .before in
     let read = take .before .before .before .before in
-    let b = read .before .before .before .before .args .self in
+    let a = read .before .before .before .before .args in
     left read order.Store _ _ _ (take .before .before .enum-told4 .given .1)
-    (record {
-      bench-is = ap (λ (x : Bool). changed b (b .session) x (b .held)) (take .take .ensures .0);
-      store-is = store-as _ _ (take .take .ensures .0) (take .take .ensures .1);
-      keys-are = refl;
-    })
+    (with-store (a .self) (a .store .now) (a .keys .now) _ _ (take .take .ensures .0) (take .take .ensures .1))
 
 same-length-8 : tie.Need-same-length-8
 same-length-8 c = search needs
@@ -252,13 +250,9 @@ returns-11 : tie.Need-returns-11
 returns-11 c =
     let convert = c .before .before in
     let read = convert .before .before .before .before in
-    let b = read .before .before .before .before .args .self in
+    let a = read .before .before .before .before .args in
     left read order.Convert _ _ _ (convert .before .before .enum-told5 .given .1)
-    (record {
-      bench-is = ap (λ (x : Bool). changed b (b .session) x (b .held)) (convert .convert .ensures .0);
-      store-is = store-as _ _ (convert .convert .ensures .0) (convert .convert .ensures .1);
-      keys-are = refl;
-    })
+    (with-store (a .self) (a .store .now) (a .keys .now) _ _ (convert .convert .ensures .0) (convert .convert .ensures .1))
 
 same-length-10 : tie.Need-same-length-10
 same-length-10 c = search needs
