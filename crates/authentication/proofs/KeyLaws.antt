@@ -8,7 +8,7 @@ use native.Mathlib.Omega.{arith}
 use lib.Bits.{bitAnd, bitOr, or-shifted}
 use lib.Count.{ones, ones-step}
 use lib.Dec.{lit≤}
-use lib.ListN.{length, getD, take, drop, set, length-append}
+use lib.ListN.{length, getD, take, drop, set, length-append, length-map}
 use lib.Pow.{shr-lt}
 use lib.Seq.{take-suc, take-suc-set}
 use Rattle.octets.specs.Bytes.{bytes, splice}
@@ -16,7 +16,7 @@ use Rattle.octets.proofs.NumberLaws.{length-bytes}
 use Rattle.octets.proofs.SpliceLaws.{splice-splice, splice-all}
 use Rattle.des.specs.Bits.{bits, bitsOfBytes, bytesOfBits}
 use Rattle.des.proofs.BitLaws.{take-bits, drop-bits}
-use Rattle.des.proofs.ByteLaws.{bytes-bits}
+use Rattle.des.proofs.ByteLaws.{bytes-bits, length-bytesOfBits}
 use Rattle.des.proofs.WordLaws.{pushed, whole, masked}
 use Rattle.authentication.specs.Mac.{block}
 use Rattle.authentication.specs.Keys.{left, right, triple, ks1, ks2, ks3, odd, sessionKeys, Drawn}
@@ -96,3 +96,19 @@ derived-of kmac ra rb t a b x y one two three ea eb ex ey d e =
     (e ∙ ap₂ (λ (s t : List ℕ). s ++ t) (sym (bytes-bits 8 one) ∙ ap (bytesOfBits 8) (d .first ∙ ap (triple k1 k2 k3) fx))
     (ap₂ (λ (s t : List ℕ). s ++ t) (sym (bytes-bits 8 two) ∙ ap (bytesOfBits 8) (d .second ∙ ap (triple k1 k2 k3) fy))
     (sym (bytes-bits 8 three) ∙ ap (bytesOfBits 8) (d .third ∙ ap (triple k3 k2 k1) fx))))
+
+pub length-keys : (kmac ra rb : List ℕ) → length (sessionKeys kmac ra rb) ≡ 24
+unfolding sessionKeys
+length-keys kmac ra rb =
+    let a = bytesOfBits 8 (ks1 kmac ra rb) in
+    let b = bytesOfBits 8 (ks2 kmac ra rb) in
+    let c = bytesOfBits 8 (ks3 kmac ra rb) in
+    length-map (a ++ (b ++ c)) odd
+    ∙ omega (
+      arith,
+      length-append a (b ++ c),
+      length-append b c,
+      length-bytesOfBits 8 (ks1 kmac ra rb),
+      length-bytesOfBits 8 (ks2 kmac ra rb),
+      length-bytesOfBits 8 (ks3 kmac ra rb),
+    )

@@ -3,16 +3,16 @@
 use mathlib.Core.Path.{_≡_, refl, sym, ap, ap₂, _∙_, subst}
 use mathlib.Core.Bool.{Bool, true, false}
 use mathlib.Core.List.{List}
-use Prim.Native.Nat.{ℕ, _+_, _-_, _*_, _/_, _^_, _≤_, _<_}
+use Prim.Native.Nat.{ℕ, _+_, _*_, _/_, _^_, _≤_, _<_}
 use native.Mathlib.Numerals.{add-one}
 use native.Mathlib.Omega.{arith}
 use lib.Dec.{eqb}
-use lib.ListN.{length, drop, length-drop}
-use lib.Seq.{take-all}
+use lib.ListN.{length}
 use borrow.Author.Tests.{eqb-true, eqb-false}
-use Rattle.octets.specs.Bytes.{Bytes, bytes, number, part, same}
+use Rattle.octets.specs.Bytes.{Bytes, bytes, number, same}
 use Rattle.octets.proofs.BoolLaws.{same-refl, same-true}
 use Rattle.octets.proofs.NumberLaws.{part-bytes, bytes-one}
+use Rattle.octets.proofs.PartLaws.{part-whole}
 use Rattle.des.specs.Bits.{bits, xorBits, bytesOfBits}
 use Rattle.des.specs.Des.{decipherBits}
 use Rattle.des.specs.Words.{Keys}
@@ -20,7 +20,6 @@ use Rattle.fast_des.specs.declared.Halves.{Halves}
 use Rattle.fast_des.specs.Inside.{Entered, Leaves, Adds, EnciphersInside, DeciphersInside}
 use Rattle.des.proofs.ByteLaws.{bytes-bits, length-bytesOfBits}
 use Rattle.authentication.specs.Mac.{block, chain, finish, cbcMac, macString, mac}
-use Rattle.authentication.specs.Unit.{macOf}
 use Rattle.authentication.proofs.PairLaws.{length-string}
 use Rattle.authentication.proofs.StringLaws.{block-number}
 
@@ -74,11 +73,17 @@ words-same x y hx hy = go (eqb x y) (same (bytes 8 x) (bytes 8 y)) refl refl
     go false true p q = absurd (eqb-false x y p (bytes-one 8 x y hx hy (same-true (bytes 8 x) (bytes 8 y) q)))
     go false false p q = refl
 
-pub macs-same : (unit m : List ℕ) (made sent : ℕ) → Bytes unit → 8 ≤ length unit → made < 2 ^ 64 → sent < 2 ^ 64 → bytes 8 made ≡ m → sent ≡ number 8 unit (length unit - 8)
-    → eqb made sent ≡ same m (macOf unit)
-unfolding macOf part
-macs-same unit m made sent b h hx hy ex ey =
-    let n = length unit - 8 in
-    let t : length (drop n unit) ≤ 8 = omega (arith, length-drop n unit) in
-    let e : bytes 8 sent ≡ drop n unit = ap (bytes 8) ey ∙ sym (part-bytes 8 unit n b (omega arith)) ∙ take-all 8 (drop n unit) t in
-    words-same made sent hx hy ∙ ap₂ same ex e
+-- two MACs as words, the second read from the bytes that were sent
+pub macs-same : (sent m : List ℕ) (made x : ℕ) → Bytes sent → length sent ≡ 8 → made < 2 ^ 64 → x < 2 ^ 64 → bytes 8 made ≡ m → x ≡ number 8 sent 0
+    → eqb made x ≡ same m sent
+macs-same sent m made x b l hx hy ex ey =
+    let e : bytes 8 x ≡ sent = ap (bytes 8) ey ∙ sym (part-bytes 8 sent 0 b (omega arith)) ∙ part-whole sent 8 l in
+    words-same made x hx hy ∙ ap₂ same ex e
+
+-- and what has not eight bytes is no MAC
+pub mac-long : (key destination m sent : List ℕ) → (length sent ≡ 8 → ⊥) → false ≡ same (mac key destination m) sent
+mac-long key destination m sent h = go (same (mac key destination m) sent) refl
+  where
+    go : (b : Bool) → same (mac key destination m) sent ≡ b → false ≡ b
+    go true e = absurd (h (sym (ap length (same-true (mac key destination m) sent e)) ∙ length-mac key destination m))
+    go false e = refl

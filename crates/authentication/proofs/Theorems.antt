@@ -8,12 +8,11 @@ use native.Mathlib.Nat.{not-suc-le-zero, le-of-suc-le-suc}
 use native.Mathlib.Omega.{arith}
 use lib.Count.{ones}
 use lib.Dec.{eqb, leb}
-use lib.ListN.{length, getD, take, drop, replicate, length-append, take-append-drop}
+use lib.ListN.{length, getD, take, drop, replicate, length-map, take-append-drop}
 use borrow.Author.Tests.{eqb-true, leb-true, le-leb}
 use Rattle.octets.specs.Bytes.{between, part, same}
 use Rattle.octets.proofs.BoolLaws.{and-both, and-left, and-right, between-true, is-between, same-refl, same-true}
 use Rattle.octets.proofs.SpliceLaws.{splice-front}
-use Rattle.des.proofs.ByteLaws.{length-bytesOfBits}
 use Rattle.des.specs.Bits.{bytesOfBits}
 use Rattle.refusal.specs.House.{Answer, gives, unlessRefused}
 use Rattle.refusal.proofs.Laws.{asks-gives, gives-number}
@@ -22,7 +21,7 @@ use Rattle.authentication.specs.Keys.{odd, ks1, ks2, ks3, sessionKeys, d
 use Rattle.authentication.specs.Unit.{header, message, unitOf, built, buffer, body, macOf, rightHeader, rightContents, checked, dataOf}
 use Rattle.authentication.specs.Claims.{TellsPair, StringTells, OnePair, ParityFreeMac, ParityFreeCalls, Accepts, IsBuilt, AcceptedExactlyBuilt, WrittenAccepted, RefusedBuildWritesNothing, OddParity, OneAnswer}
 use Rattle.authentication.proofs.PairLaws.{string-tells-pair, one-told}
-use Rattle.authentication.proofs.KeyLaws.{odd-ones, odd-high}
+use Rattle.authentication.proofs.KeyLaws.{odd-ones, odd-high, length-keys}
 use Rattle.authentication.proofs.UnitLaws.{header-only, header-right, take-first, length-unit, body-unit, mac-unit, data-unit, first-unit}
 use Rattle.authentication.proofs.AnswerLaws.{Passed, passed, all-right, one-derived, one-built, one-checked}
 use Rattle.authentication.proofs.ParityLaws.{set-parity, same-mac, same-keys, same-unit, same-built, same-checked, same-derived}
@@ -166,15 +165,7 @@ odd-parity =
           let a = bytesOfBits 8 (ks1 kmac ra rb) in
           let b = bytesOfBits 8 (ks2 kmac ra rb) in
           let c = bytesOfBits 8 (ks3 kmac ra rb) in
-          let l : i < length (a ++ (b ++ c)) =
-          omega (
-            arith,
-            length-append a (b ++ c),
-            length-append b c,
-            length-bytesOfBits 8 (ks1 kmac ra rb),
-            length-bytesOfBits 8 (ks2 kmac ra rb),
-            length-bytesOfBits 8 (ks3 kmac ra rb),
-          ) in
+          let l : i < length (a ++ (b ++ c)) = omega (arith, length-keys kmac ra rb, length-map (a ++ (b ++ c)) odd) in
           map-at odd (λ (x : ℕ). ones x % 2 ≡ 1) odd-ones (a ++ (b ++ c)) i l;
       others = odd-high;
     }

@@ -1,5 +1,6 @@
 // Session keys, the MAC, and data units built and checked (SUBSET-037-2, 6.2).
 ghost use mathlib.Core.Path.{_≡_};
+ghost use Rattle.octets.specs.Bytes.{same};
 ghost use Rattle.authentication.specs.Mac.{mac};
 ghost use Rattle.authentication.specs.Keys.{Derives};
 ghost use Rattle.authentication.specs.Unit.{Builds, checkedAs, checked, dataOf};
@@ -7,12 +8,14 @@ use crate::cbc::mac_word;
 use crate::keys::derive;
 use crate::unit::DATA_MOST;
 use crate::unit::KEY;
+use crate::unit::MAC;
 use crate::unit::UNIT_LEAST;
 use crate::unit::UNIT_MOST;
-use crate::unit::between;
 use crate::unit::contents_right;
+use crate::unit::is_mac;
 use crate::unit::mac_right;
 use crate::unit::put_unit;
+use octets::between;
 use refusal::Refusal;
 
 mod cbc;
@@ -131,4 +134,14 @@ pub fn mac(key: [u8; 24], destination: [u8; 3], message: &[u8]) -> [u8; 8]
     ensures { λ r. ⌜ r ≡ mac key destination (now (message .entry)) ⌝ }
 {
     des::store(mac_word(&key, destination, message))
+}
+
+// Whether the bytes sent are the MAC of a message.
+pub fn mac_is(key: [u8; 24], destination: [u8; 3], message: &[u8], sent: &[u8]) -> bool
+    ensures { λ r. ⌜ r ≡ same (mac key destination (now (message .entry))) (now (sent .entry)) ⌝ }
+{
+    if sent.len() != MAC {
+        return false;
+    }
+    is_mac(&key, destination, message, sent)
 }

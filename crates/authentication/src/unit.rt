@@ -2,13 +2,16 @@
 ghost use mathlib.Core.Path.{_≡_};
 ghost use Prim.Native.Nat.{_+_, _≤_};
 ghost use lib.ListN.{length, take};
-ghost use Rattle.octets.specs.Bytes.{between as isBetween, splice, same};
+ghost use Rattle.octets.specs.Bytes.{splice, same};
 ghost use Rattle.authentication.specs.Mac.{mac};
 ghost use Rattle.authentication.specs.Unit.{flag as flagOf, header as headerOf, message, unitOf, body, macOf, rightHeader, rightContents};
 use crate::cbc::mac_word;
 
 // Bytes of a triple key.
 pub const KEY: usize = 24;
+
+// Bytes of a MAC.
+pub const MAC: usize = 8;
 
 // Bytes of a unit: the first, user data, and 8 of MAC. One of 9 has no user data: its MAC is judged, then H9 (H7 is for fewer).
 pub const UNIT_LEAST: usize = 9;
@@ -21,15 +24,6 @@ pub const DATA_MOST: usize = 1023;
 const ETY: u8 = 0;
 
 const MTI: u8 = 5;
-
-pub fn between(low: usize, high: usize, n: usize) -> bool
-    ensures { λ r. ⌜ r ≡ isBetween low high n ⌝ }
-{
-    if n < low {
-        return false;
-    }
-    n <= high
-}
 
 // ---- the first byte
 
@@ -63,14 +57,21 @@ fn header_right(b: u8, direction: bool) -> bool
 // ---- judging
 
 // All eight bytes of the two MACs are compared at once.
+pub fn is_mac(key: &[u8], destination: [u8; 3], message: &[u8], sent: &[u8]) -> bool
+    requires { ⌜ (length (now key) ≡ 24) × (length (now sent) ≡ 8) ⌝ }
+    ensures { λ r. ⌜ r ≡ same (mac (now (key .entry)) destination (now (message .entry))) (now (sent .entry)) ⌝ }
+{
+    let made = mac_word(key, destination, message);
+    let sent = octets::get64_at(sent, 0);
+    made == sent
+}
+
 pub fn mac_right(unit: &[u8], key: &[u8], destination: [u8; 3]) -> bool
     requires { ⌜ (length (now key) ≡ 24) × (9 ≤ length (now unit)) ⌝ }
     ensures { λ r. ⌜ r ≡ same (mac (now (key .entry)) destination (body (now (unit .entry)))) (macOf (now (unit .entry))) ⌝ }
 {
-    let n = unit.len() - 8;
-    let sent = octets::get64_at(unit, n);
-    let made = mac_word(key, destination, &unit[..n]);
-    made == sent
+    let n = unit.len() - MAC;
+    is_mac(key, destination, &unit[..n], &unit[n..])
 }
 
 pub fn contents_right(unit: &[u8], direction: bool) -> bool

@@ -1,6 +1,6 @@
 -- Lists of bytes: big-endian numbers, a part of a list, a list written over from an index, a gap closed or opened.
 -- Assumes nothing.
-use mathlib.Core.Bool.{Bool, true, false, _&&_}
+use mathlib.Core.Bool.{Bool, true, false, _&&_, not}
 use mathlib.Core.List.{List, [], _∷_, _++_}
 use Prim.Native.Nat.{ℕ, zero, suc, _+_, _*_, _/_, _%_, _<_}
 use lib.Dec.{eqb, leb}
@@ -55,6 +55,10 @@ unfoldable pub opened : List ℕ → ℕ → ℕ → ℕ → List ℕ
 opened d i gap n = splice d (i + gap) (part d i n)
 
 -- ---- tests
+
+-- a byte as no or yes: 0 is no, and any other byte yes
+abbrev pub nonzero : ℕ → Bool
+nonzero b = not (eqb b 0)
 
 -- a number lies between two bounds, or is one of them
 abbrev pub between : ℕ → ℕ → ℕ → Bool

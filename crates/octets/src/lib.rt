@@ -2,7 +2,18 @@
 ghost use mathlib.Core.Path.{_≡_};
 ghost use Prim.Native.Nat.{_+_, _≤_, _<_};
 ghost use lib.ListN.{length, replicate};
-ghost use Rattle.octets.specs.Bytes.{get16, get32, number, be16, be32, bytes, part, splice, closed, opened, allZero};
+ghost use Rattle.octets.specs.Bytes.{between as isBetween, get16, get32, number, be16, be32, bytes, part, splice, closed, opened, allZero};
+
+// ---- numbers in a range
+
+pub fn between(low: usize, high: usize, n: usize) -> bool
+    ensures { λ r. ⌜ r ≡ isBetween low high n ⌝ }
+{
+    if n < low {
+        return false;
+    }
+    n <= high
+}
 
 // ---- big-endian numbers
 

@@ -1,6 +1,7 @@
 // The refusals of the house (document 01, "Refusals of the house"; H14 is of document 02, change request 6).
 ghost use mathlib.Core.Path.{_≡_};
-ghost use Rattle.refusal.specs.House.{houseNumber};
+ghost use Rattle.refusal.specs.House.{house, houseNumber};
+ghost use Rattle.refusal.specs.Code.{code};
 
 pub enum Refusal {
     // H1: the store buffer has the length of no edition, neither 3,852 nor 38,012 bytes; in a conversion, not that of its side's edition.
@@ -53,4 +54,11 @@ pub fn house_number(h: Refusal) -> u8
         Refusal::KeyLength => 13,
         Refusal::NoRoom => 14,
     }
+}
+
+// The number that C is given.
+pub fn refusal_code(h: Refusal) -> i32
+    ensures { λ r. ⌜ r ≡ code (house (houseNumber h)) ⌝ }
+{
+    0 - (house_number(h) as i32)
 }

@@ -4,12 +4,13 @@ use mathlib.Core.Path.{_≡_, refl, sym, ap, subst, _∙_}
 use mathlib.Core.Bool.{Bool, true, false}
 use mathlib.Core.List.{List, [], _∷_}
 use mathlib.Core.Logic.{_⊎_, inl, inr, ⊎-elim}
-use Prim.Native.Nat.{ℕ, zero, suc, _<_}
+use Prim.Native.Nat.{ℕ, zero, suc, _+_, _-_, _*_, _<_}
 use native.Mathlib.Omega.{arith}
 use lib.Dec.{ltb, eqb}
 use lib.ListN.{length, take}
 use borrow.Author.Tests.{eq-eqb, ne-eqb, ltb-false, ltb-true}
 use Rattle.octets.proofs.BoolLaws.{between-true, is-between, under, over}
+use Rattle.octets.proofs.PartLaws.{part-length}
 use Rattle.refusal.specs.House.{house}
 use Rattle.refusal.proofs.Laws.{not-both}
 use Rattle.store.specs.declared.Limits.{Limits}
@@ -20,9 +21,9 @@ use Rattle.store.specs.Store.{encode, entries, sound}
 use Rattle.store.specs.Search.{fits, unfound, findIn, find, emptyIn, emptied}
 use Rattle.store.specs.Request.{Request, work}
 use Rattle.store.specs.WellFormed.{AllReadable}
-use Rattle.store.specs.Claims.{OneStore, HeaderSays, AcceptedSaysEdition, RequestsKeepSound, BothEndsFit, ReversedNeverFits, OneMomentFits, EndlessFits, placeless, LatestTaken, UnsoundExactly, NoKeyExactly, OrderKeepsEnd, RefusedEmptyWritesNothing, OneAnswer}
+use Rattle.store.specs.Claims.{OneStore, HeaderSays, AcceptedSaysEdition, RequestsKeepSound, BothEndsFit, ReversedNeverFits, OneMomentFits, EndlessFits, placeless, LatestTaken, WholeKey, UnsoundExactly, NoKeyExactly, OrderKeepsEnd, RefusedEmptyWritesNothing, OneAnswer}
 use Rattle.store.proofs.SoundLaws.{Sound, sound-says}
-use Rattle.store.proofs.SearchLaws.{known-edition, find-unsound}
+use Rattle.store.proofs.SearchLaws.{Placed, known-edition, find-placed, find-unsound}
 use Rattle.store.proofs.FindLaws.{in-sound, twelve-unsound, found-taken, one-found, none-there, none-found, same-taken}
 use Rattle.store.proofs.DecodeLaws.{encode-entries}
 use Rattle.store.proofs.WellFormedLaws.{none-wellFormed, sound-wellFormed}
@@ -107,6 +108,14 @@ endless-fits = record { always = λ start t h k. is-between start 0xffffffff t h
 
 pub latest-taken : LatestTaken
 latest-taken = record { taken = found-taken; one-found = one-found }
+
+pub whole-key : WholeKey
+whole-key =
+    record {
+      long = λ s peer t place end e.
+          let p : Placed s peer t place = find-placed s peer t place end e in
+          ap length (p .key-is) ∙ part-length s (12 + 44 * (place - 1) + 8) 24 (omega (arith, p .inside));
+    }
 
 twelve-edition : (E : Edition) (s : List ℕ) (peer t : ℕ) → editionOf (length s) ≡ E → find s peer t ≡ unfound 12 → (L : Limits) × (E ≡ Known L) × (sound L s ≡ false)
 unfolding find findIn

@@ -97,6 +97,10 @@ pub record LatestTaken : Type 0 where
   pub one-found : (L : Limits) (s : List ℕ) (peer t : ℕ) → editionOf (length s) ≡ Known L → sound L s ≡ true → (j : ℕ) → j < length (entries L s)
       → serves peer t (getD (entries L s) j nobody) ≡ true → IsFound s peer t
 
+-- where find gives a place, `key` gives a whole KMAC
+pub record WholeKey : Type 0 where
+  pub long : (s : List ℕ) (peer t place end : ℕ) → find s peer t ≡ found place end → length (key s peer t) ≡ 24
+
 abbrev pub NoneServes : List Entry → ℕ → ℕ → Type 0
 NoneServes es peer t = (j : ℕ) → j < length es → serves peer t (getD es j nobody) ≡ false
 

@@ -1,10 +1,12 @@
 -- `authentication::unit::mac_right` meets its contract.
 -- Assumes nothing.
+use mathlib.Core.Path.{_≡_, ap, _∙_}
 use Prim.Native.Nat.{_-_}
-use lib.ListN.{length, take, length-take}
+use lib.ListN.{length, take, drop, length-take, length-drop}
+use lib.Seq.{take-all}
+use Rattle.octets.specs.Bytes.{same}
 use Rattle.authentication.specs.Mac.{mac}
-use Rattle.authentication.specs.Unit.{body}
-use Rattle.authentication.proofs.MacLaws.{macs-same}
+use Rattle.authentication.specs.Unit.{body, macOf}
 use borrow.Author.Needs.{needs}
 use native.Mathlib.Omega.{arith}
 use Rattle.authentication.proofs.unit.mac_right.Statement.{statement}
@@ -13,27 +15,40 @@ use Rattle.authentication.proofs.unit.mac_right.Tie as tie
 sub-n : tie.Need-sub-n
 sub-n c = search needs
 
-get64-at-requires : tie.Need-get64-at-requires
-get64-at-requires c κs = search needs
-
-slice-aggregate-mac-word : tie.Need-slice-aggregate-mac-word
-slice-aggregate-mac-word c =
-    let u = c .before .before .before .before .args .unit .now in
+slice-aggregate-is-mac : tie.Need-slice-aggregate-is-mac
+slice-aggregate-is-mac c =
+    let u = c .before .before .before .args .unit .now in
     omega (arith, length-take (length u - 8) u)
 
-mac-word-requires : tie.Need-mac-word-requires
-mac-word-requires c κs = search needs
+sub-is-mac : tie.Need-sub-is-mac
+sub-is-mac c = search needs
+
+part-is-mac-start : tie.Need-part-is-mac-start
+part-is-mac-start c = search needs
+
+part-is-mac-end : tie.Need-part-is-mac-end
+part-is-mac-end c = search needs
+
+is-mac-requires : tie.Need-is-mac-requires
+is-mac-requires c κs = search needs
 
 returns : tie.Need-returns
-unfolding body
+unfolding body macOf
 returns c =
-    let get = c .before .before in
-    let known = get .before .before in
-    let a = known .before .args in
+    let a = c .before .before .before .before .before .args in
     let u = a .unit .now in
-    macs-same u (mac (a .key .now) (a .destination) (take (length u - 8) u)) (c .mac-word .result) (get .get64-at .result) (λ i. known .shared-slice-known .given i .fits) (omega arith)
-    (omega arith) (omega arith) (c .mac-word .ensures) (get .get64-at .ensures)
+    let n = length u - 8 in
+    let e : take (length u - n) (drop n u) ≡ drop n u = take-all (length u - n) (drop n u) (omega (arith, length-drop n u)) in
+    c .is-mac .ensures ∙ ap (same (mac (a .key .now) (a .destination) (take n u))) e
 
 pub mac-right-spec : {M : Type 1} → statement M
 mac-right-spec =
-    tie.close (tie.spec sub-n get64-at-requires slice-aggregate-mac-word mac-word-requires returns)
+    tie.close
+    (tie.spec
+    sub-n
+    slice-aggregate-is-mac
+    sub-is-mac
+    part-is-mac-start
+    part-is-mac-end
+    is-mac-requires
+    returns)

@@ -1,9 +1,9 @@
--- `authentication::unit::between` meets its contract.
+-- `octets::between` meets its contract.
 -- Assumes nothing.
 use Prim.Native.Nat.{_-_}
 use borrow.Author.Tests.{le-leb, lt-leb}
-use Rattle.authentication.proofs.unit.between.Statement.{statement}
-use Rattle.authentication.proofs.unit.between.Tie as tie
+use Rattle.octets.proofs.between.Statement.{statement}
+use Rattle.octets.proofs.between.Tie as tie
 
 returns : tie.Need-returns
 returns c = let a = c .before .args in simp (lt-leb (a .low) (a .n) (c .if1 .taken))
