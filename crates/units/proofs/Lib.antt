@@ -1,0 +1,6 @@
+pub mod HeaderLaws
+pub mod WriteLaws
+pub mod TestLaws
+pub mod UnitLaws
+pub mod BuiltLaws
+pub mod Theorems

@@ -1,0 +1,30 @@
+// The strings that the MACs of set-up are made of, which hold more than their units (6.2.3.2.1.9, .10).
+ghost use mathlib.Core.Path.{_≡_};
+ghost use mathlib.Core.List.{_∷_, _++_};
+ghost use lib.ListN.{length};
+ghost use Rattle.units.specs.Units.{etcsId};
+use crate::etcs_id;
+
+// The 13 bytes of an AU2 before its MAC, which end in RA; RB; B.
+pub fn au2_message(caller: u32, rb: [u8; 8], text: &[u8]) -> [u8; 24]
+    requires { ⌜ length (now text) ≡ 13 ⌝ }
+    ensures { λ r. ⌜ r ≡ now (text .entry) ++ (rb ++ etcsId caller) ⌝ }
+{
+    let id = etcs_id(caller);
+    let mut m = [0u8; 24];
+    octets::copy(&mut m, 0, text, 0, 13);
+    octets::copy(&mut m, 13, &rb, 0, 8);
+    octets::copy(&mut m, 21, &id, 0, 3);
+    m
+}
+
+// The first byte of an AU3; RB; RA.
+pub fn au3_message(first: u8, ra: [u8; 8], rb: [u8; 8]) -> [u8; 17]
+    ensures { λ r. ⌜ r ≡ first ∷ rb ++ ra ⌝ }
+{
+    let mut m = [0u8; 17];
+    m[0] = first;
+    octets::copy(&mut m, 1, &rb, 0, 8);
+    octets::copy(&mut m, 9, &ra, 0, 8);
+    m
+}
