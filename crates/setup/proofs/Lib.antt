@@ -1,0 +1,14 @@
+pub mod StepLaws
+pub mod TableLaws
+pub mod CallLaws
+pub mod UnitLaws
+pub mod SideLaws
+pub mod EndLaws
+pub mod PickLaws
+pub mod SquareLaws
+pub mod OnlyLaws
+pub mod DataLaws
+pub mod JudgeLaws
+pub mod RefusalLaws
+pub mod KeyLaws
+pub mod Theorems
