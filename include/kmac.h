@@ -2,8 +2,9 @@
  * kmac.h: on-board keys and authentication for railway radio.
  *
  * The module is the on-board side (a KMAC entity) of SUBSET-137 1.0.0: it takes keys from the key centre into a store that
- * the host lends. With a held key it derives session keys, and builds and checks data units (SUBSET-037-2 4.0.0).
- * examples/c/host.c is a small host, from the empty store to a checked unit.
+ * the host lends. With a held key it sets up connections to peers, as caller and as called side, derives session keys, and
+ * builds and checks data units (SUBSET-037-2 4.0.0). examples/c/host.c is a small host, from the empty store to a checked
+ * unit; examples/c/tugs.c sets up a connection between two.
  *
  * Link with libkmac.a (x86-64, System V calling convention). It needs memmove and memset of C and nothing else.
  *
@@ -11,6 +12,8 @@
  * what it passes is then not what the library takes. So compile every file that includes kmac.h again when KMAC_VERSION
  * rises, and check at power-on that kmac_version() is KMAC_VERSION.
  *
+ *     version 4   kmac_find takes 64 bytes more of stack. A host that gives it a stack of its own, of KMAC_STACK_FIND bytes,
+ *                 must be compiled again.
  *     version 3   a session remembers a transaction number, in bytes that version 2 did not read and wrote as zeros, and
  *                 kmac_receive answers RESPONSE 10. A host that knows no RESPONSE 10 must be changed; a session that was
  *                 kept from version 2 is read as one that remembers none.
@@ -19,7 +22,8 @@
  *     version 1   had neither KMAC_VERSION nor kmac_version.
  *
  * A call that comes new does not raise it: a host that does not make the call needs no change, and one that makes it does
- * not link with a library that lacks it. kmac_to_edition2 and kmac_to_edition1 came so, within version 3.
+ * not link with a library that lacks it. kmac_to_edition2 and kmac_to_edition1 came so, within version 3. The ten calls of
+ * connection set-up came with version 4.
  *
  *
  * WHAT HOLDS FOR EVERY CALL
@@ -33,9 +37,10 @@
  * brackets say. No pointer may be NULL, not even where its length is 0: lend the address of any byte. No alignment is
  * asked of bytes; end of kmac_find is a uint32_t and aligned as C aligns one.
  *
- * Overlap. A buffer that a call may write (session, out, keys, result, end, to, and store where it is not const) must not
- * overlap any other buffer of that call, not by a single byte. Buffers that a call only reads may overlap: a KMAC can be
- * lent as a part of the store. What the library promises is proved for buffers that keep to this, and for no others.
+ * Overlap. A buffer that a call may write (session, connection, events, out, keys, result, end, to, and store where it is
+ * not const) must not overlap any other buffer of that call, not by a single byte. Buffers that a call only reads may
+ * overlap: a KMAC can be lent as a part of the store. What the library promises is proved for buffers that keep to this,
+ * and for no others.
  *
  * Output buffers. An output buffer has at least KMAC_OUT_LEN bytes. What a call writes stands at its front; the bytes
  * behind it keep their contents.
@@ -44,8 +49,8 @@
  * 0x02123456. A destination is the ETCS ID alone, three bytes, the first byte first.
  *
  * At the same time. The library has no state of its own: no global variable, no heap, no call of the system. Calls over
- * different buffers may run at the same time. The host serialises the calls that share a session or a store, unless all of
- * them only read it.
+ * different buffers may run at the same time. The host serialises the calls that share a session, a connection or a store,
+ * unless all of them only read it.
  *
  * Stack. No call needs more than KMAC_STACK_MAX bytes of stack, and none recurses. The figure of each call stands below.
  *
@@ -93,10 +98,50 @@
  * lent with the other edition's length counts as unsound. Where the conversion is refused or a step fails, the old store
  * stays in use. The file that was replaced and both buffers hold keys in the clear.
  *
- * A store that is no longer sound is found out: kmac_find and the two conversions refuse it with H12, and kmac_receive
- * answers RESPONSE 6, which tells the key centre; its "delete all keys" makes the store empty, of the edition whose length
- * is lent. Damage that leaves the store sound, say two changed bits in one byte of a KMAC, is not found out: a host that
- * must see it keeps a checksum of its own.
+ * A store that is no longer sound is found out: kmac_find, the two conversions and the two calls that start set-up refuse
+ * it with H12, and kmac_receive answers RESPONSE 6, which tells the key centre; its "delete all keys" makes the store
+ * empty, of the edition whose length is lent. Damage that leaves the store sound, say two changed bits in one byte of a
+ * KMAC, is not found out: a host that must see it keeps a checksum of its own.
+ *
+ *
+ * CONNECTION SET-UP
+ *
+ * The calls from kmac_connect_request to kmac_time_out are the safety layer of one connection (SUBSET-037-2, 6.2.6). Each
+ * takes one event of Table 20, and its answer says what goes out: to the user of the safe service, to the transport with a
+ * unit in out, and to the timer. The host brings the events and does what is told, in that order.
+ *
+ *     the side that calls                            the side that is called
+ *     kmac_connect_request            AU1 goes out
+ *                                                    kmac_connect_indication         AU2 goes out
+ *     kmac_connect_confirmation       AU3 goes out
+ *                                                    kmac_unit_indication            Sa-CONNECT.indication
+ *                                                    kmac_connect_response           AR goes out
+ *     kmac_unit_indication            Sa-CONNECT.confirmation
+ *     kmac_data_request and kmac_unit_indication on both, with DT units
+ *     kmac_disconnect_request on one, kmac_disconnect_indication on the other
+ *
+ * Connections. The host lends one connection buffer for each transport connection, and begins with all zero bytes, which
+ * are the idle connection. Every way back to IDLE writes zeros. The buffer holds key bytes, the KMAC until AU2 has come and
+ * then the session keys: the host keeps others from reading it, as it does with the store.
+ *
+ * Random numbers. The host brings RB where it calls and RA where it is called, fresh and unpredictable each time: with
+ * numbers that were used before, the units that were recorded then are right again.
+ *
+ * Keys. The key of the peer is searched once, where set-up starts, at the moment t (kmac_find says how). A key that ends or
+ * is deleted later closes no connection.
+ *
+ * Timer. T estab (40 s, 6.3.2.3.1) is the host's: it starts and stops it as byte 2 of events says, and calls kmac_time_out
+ * when it has run down. Only the side that calls has it. A called side that waits for AU3 (WFAU3) has no timer and no user:
+ * a host that gives it up zeroes the connection and releases the transport connection.
+ *
+ * Refusals. A refused call leaves connection, events and out, and nothing is to be done of what they say. After H1, H12 or
+ * H11 to kmac_connect_indication nothing goes out: the host releases the transport connection itself.
+ *
+ * What is left to the application (Annex A). Units that come late, in another order, not at all or again within a
+ * connection are not noticed (a). The called identity is the one that the host lends as own (j), and a caller is accepted
+ * for its key alone: the host looks at Sa-CONNECT.indication whether it wants this one. The type of the caller, the first
+ * byte of its identity, is in no MAC of the standard: where one KMAC serves two callers that differ in the type alone, who
+ * changes it on the way has the called side take one for the other. What is on its way when a side releases is lost (g).
  */
 #ifndef KMAC_H
 #define KMAC_H
@@ -108,7 +153,7 @@
 extern "C" {
 #endif
 
-#define KMAC_VERSION 3            /* of this header and its library (above); not the interface version of SUBSET-137 */
+#define KMAC_VERSION 4            /* of this header and its library (above); not the interface version of SUBSET-137 */
 
 /* Lengths in bytes. */
 #define KMAC_STORE_LEN 3852       /* the key store, edition 1 */
@@ -118,6 +163,8 @@ extern "C" {
 #define KMAC_STORE_2_KEYS 500     /* keys that it has room for, */
 #define KMAC_STORE_2_PEERS 4000   /* and peers of all keys together */
 #define KMAC_SESSION_LEN 32       /* a session */
+#define KMAC_CONNECTION_LEN 64    /* a connection */
+#define KMAC_EVENTS_LEN 8         /* what an event of a connection makes go out */
 #define KMAC_OUT_LEN 1032         /* the least output buffer */
 #define KMAC_MESSAGE_MAX 5000     /* the longest message of a key centre; a longer one is answered with RESPONSE 2 */
 #define KMAC_KEY_LEN 24           /* a KMAC, or the three session keys: K1, K2, K3 of 8 bytes each */
@@ -138,12 +185,22 @@ extern "C" {
 #define KMAC_STACK_EMPTY_STORE 64
 #define KMAC_STACK_TO_EDITION2 1408
 #define KMAC_STACK_TO_EDITION1 1408
-#define KMAC_STACK_FIND 1216
+#define KMAC_STACK_FIND 1280
 #define KMAC_STACK_BEGIN 64
 #define KMAC_STACK_RECEIVE 1600
 #define KMAC_STACK_SESSION_KEYS 6976
 #define KMAC_STACK_BUILD 6720
 #define KMAC_STACK_CHECK 6720
+#define KMAC_STACK_CONNECT_REQUEST 1472
+#define KMAC_STACK_CONNECT_RESPONSE 6848
+#define KMAC_STACK_DATA_REQUEST 6848
+#define KMAC_STACK_DISCONNECT_REQUEST 64
+#define KMAC_STACK_CONNECT_INDICATION 7168
+#define KMAC_STACK_CONNECT_CONFIRMATION 7168
+#define KMAC_STACK_DISCONNECT_INDICATION 128
+#define KMAC_STACK_UNIT_INDICATION 6912
+#define KMAC_STACK_TIME_OUT 64
+#define KMAC_STACK_UNIT_KIND 64
 #define KMAC_STACK_DES_ENCIPHER 896
 #define KMAC_STACK_DES_DECIPHER 896
 #define KMAC_STACK_MAX 8128
@@ -160,7 +217,7 @@ enum kmac_refusal {
     KMAC_H8_MAC_DIFFERS = -8,      /* the MAC differs */
     KMAC_H9_UNIT_CONTENTS = -9,    /* the MAC is right; the user data are empty, or ETY, MTI or direction wrong */
     KMAC_H10_DATA_LENGTH = -10,    /* the user data to protect are not 1 to 1,023 bytes */
-    KMAC_H11_NO_KEY = -11,         /* no key fits */
+    KMAC_H11_NO_KEY = -11,         /* no key fits; where set-up starts also: an identity type is over 7 */
     KMAC_H12_STORE_UNSOUND = -12,  /* a search in an unsound store, or its conversion */
     KMAC_H13_KEY_LENGTH = -13,     /* the lent key is not 24 bytes */
     KMAC_H14_NO_ROOM = -14         /* to edition 1, and more than 64 keys or 256 peers are held */
@@ -306,6 +363,140 @@ int32_t kmac_build(const uint8_t *key, size_t key_len, const uint8_t destination
  */
 int32_t kmac_check(const uint8_t *unit, size_t unit_len, const uint8_t *key, size_t key_len,
                    const uint8_t destination[KMAC_DESTINATION_LEN], uint8_t direction);
+
+/* ---- connection set-up */
+
+/*
+ * A connection is KMAC_CONNECTION_LEN bytes of the host's; all zero bytes are the idle one. Of its bytes a host reads:
+ *
+ *     byte 0          the state, enum kmac_state; any other byte counts as IDLE
+ *     byte 1          the role: 0 the side that calls (initiator), else the one that is called (responder)
+ *     bytes 4 to 7    the own identity
+ *     bytes 8 to 11   the peer's: at Sa-CONNECT.indication the caller's, whose MAC was right
+ *
+ * Identities have their first byte first. RA, RB and the key follow, and are the module's.
+ */
+enum kmac_state {
+    KMAC_IDLE = 0,
+    KMAC_WFTC = 1,     /* has called, waits for the transport connection with AU2 */
+    KMAC_WFAR = 2,     /* has sent AU3, waits for AR */
+    KMAC_DATA = 3,     /* user data go both ways */
+    KMAC_WFAU3 = 4,    /* was called and has sent AU2, waits for AU3 */
+    KMAC_WFRESP = 5    /* waits for the user's kmac_connect_response */
+};
+
+/*
+ * Each of the nine calls that follow takes one event, whatever the state is, and writes connection, events and out. Events
+ * are KMAC_EVENTS_LEN bytes:
+ *
+ *     byte 0          to the user, enum kmac_to_user
+ *     byte 1          to the transport, enum kmac_to_transport, with the unit in out
+ *     byte 2          the timer, enum kmac_timer
+ *     byte 3          the new state, byte 0 of connection
+ *     bytes 4 and 5   reason and sub-reason of Sa-DISCONNECT.indication or Sa-REPORT.indication (6.3.3.5); else zero
+ *     bytes 6 and 7   the length of the user data of Sa-DATA.indication, the first byte on top; they start at byte 1 of the
+ *                     unit that was brought; else zero
+ *
+ * Answers the length of the unit in out, 0 where there is none. An answer that is no refusal writes all of connection and
+ * all of events; where the table asks for nothing, events are zeros but for the state. Refuses H2 first, and what else is
+ * said with the call.
+ */
+enum kmac_to_user {
+    KMAC_USER_NOTHING = 0,
+    KMAC_USER_CONNECT_INDICATION = 1,
+    KMAC_USER_CONNECT_CONFIRMATION = 2,
+    KMAC_USER_DATA_INDICATION = 3,
+    KMAC_USER_DISCONNECT_INDICATION = 4,
+    KMAC_USER_REPORT_INDICATION = 5    /* a unit whose MAC was wrong; the connection stays */
+};
+
+enum kmac_to_transport {
+    KMAC_TRANSPORT_NOTHING = 0,
+    KMAC_TRANSPORT_CONNECT_REQUEST = 1,        /* T-CONNECT.request, with AU1 */
+    KMAC_TRANSPORT_CONNECT_RESPONSE = 2,       /* T-CONNECT.response, with AU2 */
+    KMAC_TRANSPORT_DISCONNECT_REQUEST = 3,     /* T-DISCONNECT.request without a unit */
+    KMAC_TRANSPORT_DISCONNECT_REQUEST_DI = 4,  /* T-DISCONNECT.request, with DI */
+    KMAC_TRANSPORT_AU3 = 5,                    /* T-DATA.request, with this unit */
+    KMAC_TRANSPORT_AR = 6,
+    KMAC_TRANSPORT_DT = 7
+};
+
+enum kmac_timer {
+    KMAC_TIMER_AS_IT_IS = 0,
+    KMAC_TIMER_SET = 1,
+    KMAC_TIMER_STOP = 2,
+    KMAC_TIMER_STOP_ALL = 3
+};
+
+/*
+ * The user asks for a connection to peer (Sa-CONNECT.request). acceptable says whether the application type is one that is
+ * served: 0 is no, any other byte yes. t is the moment of the search, rb a fresh random number.
+ * Where the state is IDLE and acceptable is yes, refuses H1, H12, H11 as kmac_find does, and H11 also where the type of own
+ * or peer is over 7.
+ */
+int32_t kmac_connect_request(uint8_t connection[KMAC_CONNECTION_LEN], uint8_t acceptable, uint32_t own, uint32_t peer,
+                             uint32_t t, const uint8_t rb[KMAC_RANDOM_LEN], const uint8_t *store, size_t store_len,
+                             uint8_t events[KMAC_EVENTS_LEN], uint8_t *out, size_t out_len);
+
+/* The user takes the connection that Sa-CONNECT.indication told (Sa-CONNECT.response). */
+int32_t kmac_connect_response(uint8_t connection[KMAC_CONNECTION_LEN], uint8_t events[KMAC_EVENTS_LEN], uint8_t *out,
+                              size_t out_len);
+
+/* The user sends data (Sa-DATA.request). Refuses H10 in every state. */
+int32_t kmac_data_request(uint8_t connection[KMAC_CONNECTION_LEN], const uint8_t *data, size_t data_len,
+                          uint8_t events[KMAC_EVENTS_LEN], uint8_t *out, size_t out_len);
+
+/*
+ * The user releases the connection (Sa-DISCONNECT.request), or does not take it. The peer is told the two numbers in a DI,
+ * but in WFTC, where there is no transport connection yet; 0 is the reason of a normal release.
+ */
+int32_t kmac_disconnect_request(uint8_t connection[KMAC_CONNECTION_LEN], uint8_t reason, uint8_t sub_reason,
+                                uint8_t events[KMAC_EVENTS_LEN], uint8_t *out, size_t out_len);
+
+/*
+ * The transport brings a connection with its first unit, an AU1 (T-CONNECT.indication). acceptable, t and store as for
+ * kmac_connect_request; own is the called identity, ra a fresh random number. The peer is the one that the AU1 names.
+ * Where the state is IDLE, acceptable is yes and the AU1 is right, refuses H1, H12, H11 as kmac_find does, and H11 also
+ * where the type of own is over 7.
+ */
+int32_t kmac_connect_indication(uint8_t connection[KMAC_CONNECTION_LEN], uint8_t acceptable, uint32_t own, uint32_t t,
+                                const uint8_t ra[KMAC_RANDOM_LEN], const uint8_t *unit, size_t unit_len,
+                                const uint8_t *store, size_t store_len, uint8_t events[KMAC_EVENTS_LEN], uint8_t *out,
+                                size_t out_len);
+
+/* The transport connection stands, and the called side has answered with a unit, an AU2 (T-CONNECT.confirmation). */
+int32_t kmac_connect_confirmation(uint8_t connection[KMAC_CONNECTION_LEN], const uint8_t *unit, size_t unit_len,
+                                  uint8_t events[KMAC_EVENTS_LEN], uint8_t *out, size_t out_len);
+
+/*
+ * The transport connection is gone (T-DISCONNECT.indication). The user is told the two numbers of the DI that came with it;
+ * where no unit came (unit_len 0), 1 and the transport's reason (Table 24); where anything else came, 127 and 127.
+ */
+int32_t kmac_disconnect_indication(uint8_t connection[KMAC_CONNECTION_LEN], uint8_t reason, const uint8_t *unit,
+                                   size_t unit_len, uint8_t events[KMAC_EVENTS_LEN], uint8_t *out, size_t out_len);
+
+/*
+ * The transport brings any other unit (T-DATA.indication). kind says which of the three it is taken for, enum kmac_kind; any
+ * byte but 1 and 2 is DT. A wrong kind ends the connection at worst: what was not checked never goes up.
+ */
+enum kmac_kind {
+    KMAC_KIND_AU3 = 1,
+    KMAC_KIND_AR = 2,
+    KMAC_KIND_DT = 3
+};
+
+int32_t kmac_unit_indication(uint8_t connection[KMAC_CONNECTION_LEN], uint8_t kind, const uint8_t *unit, size_t unit_len,
+                             uint8_t events[KMAC_EVENTS_LEN], uint8_t *out, size_t out_len);
+
+/* The timer has run down. */
+int32_t kmac_time_out(uint8_t connection[KMAC_CONNECTION_LEN], uint8_t events[KMAC_EVENTS_LEN], uint8_t *out,
+                      size_t out_len);
+
+/*
+ * The kind of a unit by its first byte, for a host that has no other way to know: 1, 2 or 3. An AU3, AR or DT as a peer
+ * builds it has its own kind; anything else, and nothing at all, is DT. Writes nothing and refuses nothing.
+ */
+int32_t kmac_unit_kind(const uint8_t *unit, size_t unit_len);
 
 /* ---- power-on */
 

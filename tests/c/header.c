@@ -39,6 +39,23 @@ static int32_t (*const to_edition1)(const uint8_t *, size_t, uint8_t *, size_t) 
 static int32_t (*const self_test)(void) = kmac_self_test;
 static int32_t (*const version)(void) = kmac_version;
 
+static int32_t (*const connect_request)(uint8_t *, uint8_t, uint32_t, uint32_t, uint32_t, const uint8_t *, const uint8_t *,
+                                        size_t, uint8_t *, uint8_t *, size_t) = kmac_connect_request;
+static int32_t (*const connect_response)(uint8_t *, uint8_t *, uint8_t *, size_t) = kmac_connect_response;
+static int32_t (*const data_request)(uint8_t *, const uint8_t *, size_t, uint8_t *, uint8_t *, size_t) = kmac_data_request;
+static int32_t (*const disconnect_request)(uint8_t *, uint8_t, uint8_t, uint8_t *, uint8_t *,
+                                           size_t) = kmac_disconnect_request;
+static int32_t (*const connect_indication)(uint8_t *, uint8_t, uint32_t, uint32_t, const uint8_t *, const uint8_t *, size_t,
+                                           const uint8_t *, size_t, uint8_t *, uint8_t *, size_t) = kmac_connect_indication;
+static int32_t (*const connect_confirmation)(uint8_t *, const uint8_t *, size_t, uint8_t *, uint8_t *,
+                                             size_t) = kmac_connect_confirmation;
+static int32_t (*const disconnect_indication)(uint8_t *, uint8_t, const uint8_t *, size_t, uint8_t *, uint8_t *,
+                                              size_t) = kmac_disconnect_indication;
+static int32_t (*const unit_indication)(uint8_t *, uint8_t, const uint8_t *, size_t, uint8_t *, uint8_t *,
+                                        size_t) = kmac_unit_indication;
+static int32_t (*const run_down)(uint8_t *, uint8_t *, uint8_t *, size_t) = kmac_time_out;
+static int32_t (*const unit_kind)(const uint8_t *, size_t) = kmac_unit_kind;
+
 static uint8_t store[KMAC_STORE_LEN], store_2[KMAC_STORE_2_LEN + 1], session[KMAC_SESSION_LEN], out[KMAC_OUT_LEN];
 static const uint8_t bytes[KMAC_KEY_LEN] = {0x01, 0x02, 0x04, 0x07, 0x08, 0x0b, 0x0d, 0x0e};
 
@@ -188,6 +205,187 @@ static int unit_answers(void)
            check(out, 10, keys, sizeof keys, bytes, 1) == 1 && out[1] == bytes[0];
 }
 
+/* ---- connection set-up, with units that a second program computed (SUBSET-037-2 prints none) */
+
+enum { CALLER = 0x02e6a54b, CALLED = 0x01123456, MOMENT = 0x1000 };
+
+static const uint8_t ra[KMAC_RANDOM_LEN] = {0xa0, 0xa1, 0xa2, 0xa3, 0xa4, 0xa5, 0xa6, 0xa7};
+static const uint8_t rb[KMAC_RANDOM_LEN] = {0xb0, 0xb1, 0xb2, 0xb3, 0xb4, 0xb5, 0xb6, 0xb7};
+static const uint8_t au1[] = {0x42, 0xe6, 0xa5, 0x4b, 0x01, 0xb0, 0xb1, 0xb2, 0xb3, 0xb4, 0xb5, 0xb6, 0xb7};
+static const uint8_t au2[] = {0x25, 0x12, 0x34, 0x56, 0x01, 0xa0, 0xa1, 0xa2, 0xa3, 0xa4, 0xa5,
+                              0xa6, 0xa7, 0xba, 0x1b, 0xdd, 0xdc, 0x16, 0x25, 0xa2, 0x62};
+static const uint8_t au3[] = {0x06, 0xaa, 0xce, 0xef, 0xbc, 0xea, 0x51, 0x17, 0xb5};
+static const uint8_t ar[] = {0x13, 0x77, 0x59, 0x70, 0x7b, 0x00, 0x8e, 0xde, 0xf8};
+static const uint8_t dt[] = {0x0a, 0x68, 0x69, 0xe2, 0xc8, 0xac, 0xba, 0x3b, 0x97, 0x7c, 0x28};
+static const uint8_t dt_back[] = {0x0b, 0x68, 0x69, 0x27, 0xf5, 0x73, 0xfe, 0x14, 0x55, 0xd1, 0x10};
+static const uint8_t di[] = {0x10, 0x00, 0x07};
+
+/* A side of a connection. */
+struct side {
+    uint8_t store[KMAC_STORE_LEN], connection[KMAC_CONNECTION_LEN], events[KMAC_EVENTS_LEN];
+};
+
+static struct side caller, called;
+
+static void put32(uint8_t *at, uint32_t number)
+{
+    for (int i = 0; i < 4; i++)
+        at[i] = (uint8_t)(number >> (24 - 8 * i));
+}
+
+/* A store with the example KMAC of SUBSET-037-2, Annex B, for one peer, from MOMENT on. */
+static void hold_one(uint8_t *lent, uint32_t peer)
+{
+    static const uint8_t kmac[KMAC_KEY_LEN] = {0x01, 0x02, 0x04, 0x07, 0x08, 0x0b, 0x0d, 0x0e, 0x10, 0x13, 0x15, 0x16,
+                                               0x19, 0x1a, 0x1c, 0x1f, 0x20, 0x23, 0x25, 0x26, 0x29, 0x2a, 0x2c, 0x2f};
+    empty_store(lent, KMAC_STORE_LEN);
+    lent[3] = 1;
+    lent[7] = 1;
+    memcpy(lent + KMAC_KEY_AT(1), kmac, sizeof kmac);
+    put32(lent + 12 + 32, MOMENT);
+    put32(lent + 12 + 36, MOMENT);
+    lent[12 + 43] = 1;
+    put32(lent + 12 + 44 * KMAC_STORE_KEYS, peer);
+}
+
+/* The answer is the length of this unit, which stands in out, and events and connection say the rest. */
+static int goes(const struct side *side, int32_t answer, const uint8_t *sent, size_t length, uint8_t user, uint8_t transport,
+                uint8_t timer, uint8_t state)
+{
+    const uint8_t *e = side->events;
+    return answer == (int32_t)length && memcmp(out, sent, length) == 0 && e[0] == user && e[1] == transport && e[2] == timer &&
+           e[3] == state && side->connection[0] == state;
+}
+
+static int32_t call(uint8_t acceptable, uint32_t own, uint32_t peer, uint32_t t, const uint8_t *lent, size_t length)
+{
+    return connect_request(caller.connection, acceptable, own, peer, t, rb, lent, length, caller.events, out, sizeof out);
+}
+
+static int32_t be_called(uint32_t own, const uint8_t *lent, size_t length)
+{
+    return connect_indication(called.connection, 1, own, MOMENT, ra, au1, sizeof au1, lent, length, called.events, out,
+                              sizeof out);
+}
+
+static int32_t bring(struct side *side, const uint8_t *unit, size_t length)
+{
+    return unit_indication(side->connection, (uint8_t)unit_kind(unit, length), unit, length, side->events, out, sizeof out);
+}
+
+/* Each side starts set-up only with a key, the caller's and the called one's types at most 7. */
+static int start_refuses(void)
+{
+    uint8_t unsound[KMAC_STORE_LEN] = {0};
+    return call(1, CALLER, CALLED, MOMENT, caller.store, 0) == KMAC_H1_STORE_LENGTH &&
+           call(1, CALLER, CALLED, MOMENT, unsound, sizeof unsound) == KMAC_H12_STORE_UNSOUND &&
+           call(1, CALLER, CALLED, MOMENT + 1, caller.store, sizeof caller.store) == KMAC_H11_NO_KEY &&
+           call(1, 0x08e6a54b, CALLED, MOMENT, caller.store, sizeof caller.store) == KMAC_H11_NO_KEY &&
+           be_called(CALLED, called.store, 0) == KMAC_H1_STORE_LENGTH &&
+           be_called(CALLED, unsound, sizeof unsound) == KMAC_H12_STORE_UNSOUND &&
+           be_called(CALLED, caller.store, sizeof caller.store) == KMAC_H11_NO_KEY &&
+           be_called(0x08123456, called.store, sizeof called.store) == KMAC_H11_NO_KEY;
+}
+
+/* Every event has a length of the output buffer that it refuses before all else. */
+static int every_event_refuses(struct side *side)
+{
+    uint8_t *c = side->connection, *e = side->events;
+    size_t little = sizeof out - 1;
+    return connect_request(c, 0, 0, 0, 0, rb, out, 0, e, out, little) == KMAC_H2_OUTPUT_LENGTH &&
+           connect_response(c, e, out, little) == KMAC_H2_OUTPUT_LENGTH &&
+           data_request(c, bytes, 0, e, out, little) == KMAC_H2_OUTPUT_LENGTH &&
+           data_request(c, bytes, 0, e, out, sizeof out) == KMAC_H10_DATA_LENGTH &&
+           disconnect_request(c, 0, 0, e, out, little) == KMAC_H2_OUTPUT_LENGTH &&
+           connect_indication(c, 0, 0, 0, ra, bytes, 0, bytes, 0, e, out, little) == KMAC_H2_OUTPUT_LENGTH &&
+           connect_confirmation(c, bytes, 0, e, out, little) == KMAC_H2_OUTPUT_LENGTH &&
+           disconnect_indication(c, 0, bytes, 0, e, out, little) == KMAC_H2_OUTPUT_LENGTH &&
+           unit_indication(c, 0, bytes, 0, e, out, little) == KMAC_H2_OUTPUT_LENGTH &&
+           run_down(c, e, out, little) == KMAC_H2_OUTPUT_LENGTH;
+}
+
+/* A refusal leaves connection, events and output, whatever stands there. */
+static int refusals_leave(void)
+{
+    struct side side;
+    memset(&side, 0xa5, sizeof side);
+    memset(out, 0xa5, sizeof out);
+    return every_event_refuses(&side) && painted(side.connection, sizeof side.connection) &&
+           painted(side.events, sizeof side.events) && painted(out, sizeof out);
+}
+
+static int set_up(void)
+{
+    return goes(&caller, call(1, CALLER, CALLED, MOMENT, caller.store, sizeof caller.store), au1, sizeof au1,
+                KMAC_USER_NOTHING, KMAC_TRANSPORT_CONNECT_REQUEST, KMAC_TIMER_SET, KMAC_WFTC) &&
+           goes(&called, be_called(CALLED, called.store, sizeof called.store), au2, sizeof au2, KMAC_USER_NOTHING,
+                KMAC_TRANSPORT_CONNECT_RESPONSE, KMAC_TIMER_AS_IT_IS, KMAC_WFAU3) &&
+           goes(&caller, connect_confirmation(caller.connection, au2, sizeof au2, caller.events, out, sizeof out), au3,
+                sizeof au3, KMAC_USER_NOTHING, KMAC_TRANSPORT_AU3, KMAC_TIMER_AS_IT_IS, KMAC_WFAR) &&
+           goes(&called, bring(&called, au3, sizeof au3), out, 0, KMAC_USER_CONNECT_INDICATION, KMAC_TRANSPORT_NOTHING,
+                KMAC_TIMER_AS_IT_IS, KMAC_WFRESP) &&
+           memcmp(called.connection + 8, "\x02\xe6\xa5\x4b", 4) == 0 &&
+           goes(&called, connect_response(called.connection, called.events, out, sizeof out), ar, sizeof ar,
+                KMAC_USER_NOTHING, KMAC_TRANSPORT_AR, KMAC_TIMER_AS_IT_IS, KMAC_DATA) &&
+           goes(&caller, bring(&caller, ar, sizeof ar), out, 0, KMAC_USER_CONNECT_CONFIRMATION, KMAC_TRANSPORT_NOTHING,
+                KMAC_TIMER_STOP, KMAC_DATA);
+}
+
+/* User data both ways, and a unit that is not right. */
+static int talk(void)
+{
+    static const uint8_t hi[] = {0x68, 0x69};
+    return goes(&caller, data_request(caller.connection, hi, sizeof hi, caller.events, out, sizeof out), dt, sizeof dt,
+                KMAC_USER_NOTHING, KMAC_TRANSPORT_DT, KMAC_TIMER_AS_IT_IS, KMAC_DATA) &&
+           goes(&called, bring(&called, dt, sizeof dt), out, 0, KMAC_USER_DATA_INDICATION, KMAC_TRANSPORT_NOTHING,
+                KMAC_TIMER_AS_IT_IS, KMAC_DATA) &&
+           called.events[6] == 0 && called.events[7] == sizeof hi &&
+           goes(&called, data_request(called.connection, hi, sizeof hi, called.events, out, sizeof out), dt_back,
+                sizeof dt_back, KMAC_USER_NOTHING, KMAC_TRANSPORT_DT, KMAC_TIMER_AS_IT_IS, KMAC_DATA) &&
+           goes(&caller, bring(&caller, dt, sizeof dt), out, 0, KMAC_USER_REPORT_INDICATION, KMAC_TRANSPORT_NOTHING,
+                KMAC_TIMER_AS_IT_IS, KMAC_DATA) &&
+           caller.events[4] == 4 && caller.events[5] == 1;
+}
+
+/* The caller releases with 0 and 7. What is left of a connection is zeros. */
+static int part(void)
+{
+    static const uint8_t zeros[KMAC_CONNECTION_LEN] = {0};
+    return goes(&caller, disconnect_request(caller.connection, 0, 7, caller.events, out, sizeof out), di, sizeof di,
+                KMAC_USER_NOTHING, KMAC_TRANSPORT_DISCONNECT_REQUEST_DI, KMAC_TIMER_STOP_ALL, KMAC_IDLE) &&
+           goes(&called, disconnect_indication(called.connection, 0, di, sizeof di, called.events, out, sizeof out), out, 0,
+                KMAC_USER_DISCONNECT_INDICATION, KMAC_TRANSPORT_NOTHING, KMAC_TIMER_STOP_ALL, KMAC_IDLE) &&
+           called.events[4] == 0 && called.events[5] == 7 && memcmp(caller.connection, zeros, sizeof zeros) == 0 &&
+           memcmp(called.connection, zeros, sizeof zeros) == 0;
+}
+
+/* The time-out of a caller that nobody answers, and of an idle one: an answer that is no refusal writes what is not state
+   or role anew. */
+static int times_out(void)
+{
+    if (call(1, CALLER, CALLED, MOMENT, caller.store, sizeof caller.store) != sizeof au1)
+        return 0;
+    if (!goes(&caller, run_down(caller.connection, caller.events, out, sizeof out), out, 0, KMAC_USER_DISCONNECT_INDICATION,
+              KMAC_TRANSPORT_DISCONNECT_REQUEST, KMAC_TIMER_STOP_ALL, KMAC_IDLE) ||
+        caller.events[4] != 7 || caller.events[5] != 3)
+        return 0;
+    memset(caller.connection, 0xa5, sizeof caller.connection);
+    return goes(&caller, run_down(caller.connection, caller.events, out, sizeof out), out, 0, KMAC_USER_NOTHING,
+                KMAC_TRANSPORT_NOTHING, KMAC_TIMER_AS_IT_IS, 0xa5) &&
+           caller.connection[1] == 1 && caller.connection[2] == 0 && caller.connection[4] == 0xa5 &&
+           caller.connection[63] == 0;
+}
+
+static int connection_answers(void)
+{
+    hold_one(caller.store, CALLED);
+    hold_one(called.store, CALLER);
+    return refusals_leave() && start_refuses() && set_up() && talk() && part() && times_out() &&
+           unit_kind(au3, sizeof au3) == KMAC_KIND_AU3 && unit_kind(ar, sizeof ar) == KMAC_KIND_AR &&
+           unit_kind(dt, sizeof dt) == KMAC_KIND_DT && unit_kind(au1, sizeof au1) == KMAC_KIND_DT &&
+           unit_kind(dt, 0) == KMAC_KIND_DT;
+}
+
 /* The first vector of NIST SP 800-17, Table B.4. */
 static int des_answers(void)
 {
@@ -202,7 +400,8 @@ static int des_answers(void)
 
 int main(void)
 {
-    if (version() != KMAC_VERSION || !stores_answer() || !unit_answers() || !des_answers() || self_test() != 0) {
+    if (version() != KMAC_VERSION || !stores_answer() || !unit_answers() || !connection_answers() || !des_answers() ||
+        self_test() != 0) {
         puts("a call does not answer as kmac.h says");
         return 1;
     }

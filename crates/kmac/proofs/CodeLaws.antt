@@ -6,17 +6,17 @@ use mathlib.Core.List.{List}
 use Prim.Native.Nat.{ℕ, _+_, _<_, _^_}
 use native.Mathlib.Omega.{arith}
 use lib.Dec.{lit<, eqb, leb}
-use lib.IntN.{ℤ, pos, _-ℤ_}
+use lib.IntN.{ℤ}
 use lib.ListN.{length}
 use mir.Syntax.{w32}
 use mir.Val.{SFits, toZ, ofZ}
-use mir.ValLaws.{toZ-pos, toZ-ofZ}
+use mir.ValLaws.{toZ-ofZ}
 use Rattle.octets.specs.Bytes.{between}
 use Rattle.octets.proofs.BoolLaws.{between-true}
-use Rattle.refusal.specs.House.{Answer, house, gives, houseNumber}
-use Rattle.refusal.specs.declared.Refusal.{Refusal}
-use Rattle.refusal.specs.declared.Refusal.the-variants.{StoreLength, OutputLength, SessionClosed, MessageShort, NoSessionInit, SameIdentity, UnitLength, MacDiffers, UnitContents, DataLength, NoKey, StoreUnsound, KeyLength, NoRoom}
+use Rattle.refusal.specs.House.{Answer, gives}
+use Rattle.refusal.specs.Code.{code}
 use Rattle.refusal.proofs.Laws.{asks-gives, gives-number}
+use Rattle.refusal.proofs.CodeLaws.{negative}
 use Rattle.store.specs.declared.Edition.{Edition}
 use Rattle.store.specs.declared.Edition.the-variants.{Known, Unknown}
 use Rattle.store.specs.Layout.{editionOf}
@@ -27,38 +27,8 @@ use Rattle.convert.specs.declared.Converted.{Converted}
 use Rattle.convert.specs.declared.Converted.the-variants.{Done, Refused}
 use Rattle.authentication.specs.Unit.{built, checked}
 use Rattle.authentication.proofs.AnswerLaws.{passed}
-use Rattle.kmac.specs.Code.{code, endAfter}
+use Rattle.kmac.specs.Code.{endAfter}
 use Rattle.kmac.specs.Claims.{RefusedFindLeavesEnd}
-
--- 0 less the number n is a number of 32 bits, the answer for Hn
-pub record Negative (n : ℕ) : Type 0 where
-  pub fits : SFits w32 (pos 0 -ℤ toZ w32 n)
-  pub is : pos 0 -ℤ toZ w32 n ≡ code (house n)
-
-pub negative : (h : Refusal) → Negative (houseNumber h)
-negative StoreLength = record { fits = record { sfits = lit< tt }; is = refl }
-negative OutputLength = record { fits = record { sfits = lit< tt }; is = refl }
-negative SessionClosed = record { fits = record { sfits = lit< tt }; is = refl }
-negative MessageShort = record { fits = record { sfits = lit< tt }; is = refl }
-negative NoSessionInit = record { fits = record { sfits = lit< tt }; is = refl }
-negative SameIdentity = record { fits = record { sfits = lit< tt }; is = refl }
-negative UnitLength = record { fits = record { sfits = lit< tt }; is = refl }
-negative MacDiffers = record { fits = record { sfits = lit< tt }; is = refl }
-negative UnitContents = record { fits = record { sfits = lit< tt }; is = refl }
-negative DataLength = record { fits = record { sfits = lit< tt }; is = refl }
-negative NoKey = record { fits = record { sfits = lit< tt }; is = refl }
-negative StoreUnsound = record { fits = record { sfits = lit< tt }; is = refl }
-negative KeyLength = record { fits = record { sfits = lit< tt }; is = refl }
-negative NoRoom = record { fits = record { sfits = lit< tt }; is = refl }
-
--- what is told of a call that gives n, and of one that refuses
-pub told-given : {a : Answer} (n : ℕ) → n < 2 ^ 31 → gives n ≡ a → toZ w32 n ≡ code a
-told-given n l e = toZ-pos w32 n l ∙ ap code e
-
-pub told-refused : {a : Answer} (h : Refusal) (z : ℤ) → z ≡ code (house (houseNumber h)) → house (houseNumber h) ≡ a → toZ w32 (ofZ w32 z) ≡ code a
-told-refused h z q e =
-    let n = negative h in
-    toZ-ofZ w32 z (subst (λ (x : ℤ). SFits w32 x) (n .is ∙ sym q) (n .fits)) ∙ q ∙ ap code e
 
 -- what is told of a conversion
 conversion-fits : (r : Converted) → SFits w32 (code (convertedAs r))

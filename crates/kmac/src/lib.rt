@@ -1,43 +1,29 @@
 // The C interface: each function does what the call behind it does.
-use crate::session_buffer::bytes_of;
-use crate::session_buffer::is_written;
-use crate::session_buffer::load;
 use authentication::Built;
 use authentication::Checked;
 use authentication::Derived;
 use convert::Converted;
-use refusal::Refusal;
-use refusal::house_number;
-use session::Begun;
-use session::Received;
-use session::Session;
+use refusal::refusal_code;
 use store::Emptied;
 use store::Found;
 ghost use mathlib.Core.Path.{_≡_};
 ghost use lib.ListN.{length};
-ghost use Rattle.refusal.specs.House.{house, gives, houseNumber, unlessRefused};
+ghost use Rattle.octets.specs.Bytes.{nonzero};
+ghost use Rattle.refusal.specs.House.{gives, unlessRefused};
+ghost use Rattle.refusal.specs.Code.{code};
 ghost use Rattle.des.specs.Des.{desEncipher, desDecipher};
 ghost use Rattle.store.specs.Layout.{edition1, edition2, editionOf};
 ghost use Rattle.store.specs.Search.{placeIn, find, emptyIn, emptied};
 ghost use Rattle.convert.specs.Convert.{answered, converted, convertedAs};
 ghost use Rattle.authentication.specs.Keys.{derived, sessionKeys};
 ghost use Rattle.authentication.specs.Unit.{built, buffer, unitOf, checked};
-ghost use Rattle.session.specs.Sessions.{begin, beginOutput};
-ghost use Rattle.session.specs.Rules.{receive, receivedAs};
-ghost use Rattle.kmac.specs.Code.{version, code, endAfter, nonzero};
-ghost use Rattle.kmac.specs.SessionBuffer.{sessionOf, begunLength, begunBuffer, replyLength, Short, Tells};
+ghost use Rattle.kmac.specs.Code.{version, endAfter};
 
-mod session_buffer;
+mod connection;
+mod sessions;
 
 // KMAC_VERSION of kmac.h: it rises where a host must be changed or compiled again.
-const VERSION: i32 = 3;
-
-// A refusal as a negative number.
-fn refused(h: Refusal) -> i32
-    ensures { λ r. ⌜ r ≡ code (house (houseNumber h)) ⌝ }
-{
-    0 - (house_number(h) as i32)
-}
+const VERSION: i32 = 4;
 
 // The version of the library's C interface, for a host to compare with KMAC_VERSION.
 #[no_mangle]
@@ -82,7 +68,7 @@ pub extern "C" fn kmac_find(store: &[u8], peer: u32, t: u32, end: &mut u32) -> i
             *end = e;
             n as i32
         }
-        Found::Refused(h) => refused(h),
+        Found::Refused(h) => refusal_code(h),
     }
 }
 
@@ -93,7 +79,7 @@ pub extern "C" fn kmac_empty_store(store: &mut [u8]) -> i32
 {
     match store::empty(store) {
         Emptied::Done => 0,
-        Emptied::Refused(h) => refused(h),
+        Emptied::Refused(h) => refusal_code(h),
     }
 }
 
@@ -103,7 +89,7 @@ fn told_conversion(answer: Converted) -> i32
 {
     match answer {
         Converted::Done => 0,
-        Converted::Refused(h) => refused(h),
+        Converted::Refused(h) => refusal_code(h),
     }
 }
 
@@ -132,7 +118,7 @@ pub extern "C" fn kmac_check(unit: &[u8], key: &[u8], destination: &[u8; 3], dir
 {
     match authentication::check(unit, key, *destination, direction != 0) {
         Checked::Accepted(n) => n as i32,
-        Checked::Refused(h) => refused(h),
+        Checked::Refused(h) => refusal_code(h),
     }
 }
 
@@ -155,7 +141,7 @@ pub extern "C" fn kmac_session_keys(
             *keys = key;
             0
         }
-        Derived::Refused(h) => refused(h),
+        Derived::Refused(h) => refusal_code(h),
     }
 }
 
@@ -173,62 +159,6 @@ pub extern "C" fn kmac_build(
 {
     match authentication::build(key, *destination, direction != 0, user, out) {
         Built::Written(n) => n as i32,
-        Built::Refused(h) => refused(h),
+        Built::Refused(h) => refusal_code(h),
     }
-}
-
-// Begins a session: writes the session init to the front of out, and the session.
-#[no_mangle]
-pub extern "C" fn kmac_begin(
-    own: u32,
-    peer: u32,
-    number: u16,
-    session: &mut [u8; 32],
-    out: &mut [u8],
-) -> i32
-    ensures { λ r. ⌜ r ≡ code (begunLength (begin own peer number (now (out .entry)))) ⌝ }
-    ensures { λ _. ⌜ now (session .exit) ≡ begunBuffer (begin own peer number (now (out .entry))) (now (session .entry)) ⌝ }
-    ensures { λ _. ⌜ now (out .exit) ≡ beginOutput (begin own peer number (now (out .entry))) own peer number (now (out .entry)) ⌝ }
-{
-    match Session::begin(own, peer, number, out) {
-        Begun::Made(made, n) => {
-            *session = bytes_of(made);
-            n as i32
-        }
-        Begun::Refused(h) => refused(h),
-    }
-}
-
-// What C is told of an answer to a message.
-fn told(answer: Received) -> i32
-    requires { ⌜ Short (receivedAs answer) ⌝ }
-    ensures { λ r. ⌜ r ≡ code (replyLength (receivedAs answer)) ⌝ }
-{
-    match answer {
-        Received::Reply(n) => n as i32,
-        Received::Opened => 0,
-        Received::Ended => 0,
-        Received::Refused(h) => refused(h),
-    }
-}
-
-// Takes a message: works it on the store, and writes the reply to the front of out, and the session.
-#[no_mangle]
-pub extern "C" fn kmac_receive(
-    session: &mut [u8; 32],
-    message: &[u8],
-    store: &mut [u8],
-    out: &mut [u8],
-) -> i32
-    ensures { λ r. ⌜ Tells (receive (sessionOf (now (session .entry))) (now (message .entry)) (now (store .entry)) (now (out .entry))) r (now (session .entry)) (now (session .exit)) (now (store .exit)) (now (out .exit)) ⌝ }
-{
-    let before = load(session);
-    let turn = before.receive(message, store, out);
-    let answer = turn.answer;
-    let said = told(answer);
-    if is_written(answer) {
-        *session = bytes_of(turn.session);
-        return said;
-    }
-    said
 }

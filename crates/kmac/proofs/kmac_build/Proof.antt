@@ -2,8 +2,9 @@
 -- Assumes nothing.
 use mathlib.Core.Path.{sym, ap, _∙_}
 use Prim.Native.Nat.{_<_, _^_}
+use Rattle.refusal.proofs.CodeLaws.{told-given, told-refused}
 use Rattle.authentication.specs.Unit.{builtAs}
-use Rattle.kmac.proofs.CodeLaws.{told-given, told-refused, unit-small}
+use Rattle.kmac.proofs.CodeLaws.{unit-small}
 use borrow.Author.Needs.{needs}
 use Rattle.kmac.proofs.kmac_build.Statement.{statement}
 use Rattle.kmac.proofs.kmac_build.Tie as tie
@@ -28,8 +29,8 @@ cast-result c =
 enum-known-h : tie.Need-enum-known-h
 enum-known-h c = search needs
 
-refused-requires : tie.Need-refused-requires
-refused-requires c κs = search needs
+refusal-code-requires : tie.Need-refusal-code-requires
+refusal-code-requires c κs = search needs
 
 same-length : tie.Need-same-length
 same-length c = search needs
@@ -47,7 +48,7 @@ returns-2 c =
     let h = c .before .before .h .given in
     let refused = c .before in
     let build = refused .before .before .before .before .before in
-    (told-refused (h .0 .0) (c .refused .result) (c .refused .ensures) (sym (ap builtAs (h .1)) ∙ build .build .ensures .answer), build .build .ensures .written)
+    (told-refused (h .0 .0) (c .refusal-code .result) (c .refusal-code .ensures) (sym (ap builtAs (h .1)) ∙ build .build .ensures .answer), build .build .ensures .written)
 
 pub kmac-build-spec : {M : Type 1} → statement M
 kmac-build-spec =
@@ -57,7 +58,7 @@ kmac-build-spec =
     enum-known-n
     cast-result
     enum-known-h
-    refused-requires
+    refusal-code-requires
     same-length
     returns
     same-length-2

@@ -2,9 +2,10 @@
 -- Assumes nothing.
 use mathlib.Core.Path.{sym, ap, _∙_}
 use Prim.Native.Nat.{_<_, _^_}
+use Rattle.octets.specs.Bytes.{nonzero}
+use Rattle.refusal.proofs.CodeLaws.{told-given, told-refused}
 use Rattle.authentication.specs.Unit.{checkedAs}
-use Rattle.kmac.specs.Code.{nonzero}
-use Rattle.kmac.proofs.CodeLaws.{told-given, told-refused, data-small}
+use Rattle.kmac.proofs.CodeLaws.{data-small}
 use borrow.Author.Needs.{needs}
 use Rattle.kmac.proofs.kmac_check.Statement.{statement}
 use Rattle.kmac.proofs.kmac_check.Tie as tie
@@ -28,8 +29,8 @@ cast-result c =
 enum-known-h : tie.Need-enum-known-h
 enum-known-h c = search needs
 
-refused-requires : tie.Need-refused-requires
-refused-requires c κs = search needs
+refusal-code-requires : tie.Need-refusal-code-requires
+refusal-code-requires c κs = search needs
 
 returns : tie.Need-returns
 returns c =
@@ -40,7 +41,7 @@ returns-2 : tie.Need-returns-2
 returns-2 c =
     let h = c .before .before .h .given in
     let check = c .before .before .before .before in
-    told-refused (h .0 .0) (c .refused .result) (c .refused .ensures) (sym (ap checkedAs (h .1)) ∙ check .check .ensures)
+    told-refused (h .0 .0) (c .refusal-code .result) (c .refusal-code .ensures) (sym (ap checkedAs (h .1)) ∙ check .check .ensures)
 
 pub kmac-check-spec : {M : Type 1} → statement M
 kmac-check-spec =
@@ -50,6 +51,6 @@ kmac-check-spec =
     enum-known-n
     cast-result
     enum-known-h
-    refused-requires
+    refusal-code-requires
     returns
     returns-2)

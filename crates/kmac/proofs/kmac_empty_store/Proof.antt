@@ -1,9 +1,9 @@
 -- `kmac::kmac_empty_store` meets its contract.
 -- Assumes nothing.
 use mathlib.Core.Path.{sym, ap, _∙_}
+use Rattle.refusal.specs.Code.{code}
+use Rattle.refusal.proofs.CodeLaws.{told-refused}
 use Rattle.store.specs.Search.{emptiedAs}
-use Rattle.kmac.specs.Code.{code}
-use Rattle.kmac.proofs.CodeLaws.{told-refused}
 use borrow.Author.Needs.{needs}
 use Rattle.kmac.proofs.kmac_empty_store.Statement.{statement}
 use Rattle.kmac.proofs.kmac_empty_store.Tie as tie
@@ -17,8 +17,8 @@ enum-told c = search needs
 enum-known-h : tie.Need-enum-known-h
 enum-known-h c = search needs
 
-refused-requires : tie.Need-refused-requires
-refused-requires c κs = search needs
+refusal-code-requires : tie.Need-refusal-code-requires
+refusal-code-requires c κs = search needs
 
 same-length : tie.Need-same-length
 same-length c = search needs
@@ -36,7 +36,7 @@ returns-2 c =
     let h = c .before .before .h .given in
     let told = c .before .before in
     let empty = told .before .before .before .before in
-    (told-refused (h .0 .0) (c .refused .result) (c .refused .ensures) (sym (ap emptiedAs (h .1)) ∙ empty .empty .ensures .0), empty .empty .ensures .1)
+    (told-refused (h .0 .0) (c .refusal-code .result) (c .refusal-code .ensures) (sym (ap emptiedAs (h .1)) ∙ empty .empty .ensures .0), empty .empty .ensures .1)
 
 pub kmac-empty-store-spec : {M : Type 1} → statement M
 kmac-empty-store-spec =
@@ -45,7 +45,7 @@ kmac-empty-store-spec =
     empty-requires
     enum-told
     enum-known-h
-    refused-requires
+    refusal-code-requires
     same-length
     returns
     same-length-2

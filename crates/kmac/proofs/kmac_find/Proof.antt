@@ -2,9 +2,10 @@
 -- Assumes nothing.
 use mathlib.Core.Path.{_≡_, sym, ap, _∙_}
 use Prim.Native.Nat.{_<_, _^_}
+use Rattle.refusal.proofs.CodeLaws.{told-given, told-refused}
 use Rattle.store.specs.Search.{Finding, found, placeIn, foundAs, find}
 use Rattle.kmac.specs.Code.{endAfter}
-use Rattle.kmac.proofs.CodeLaws.{told-given, told-refused, place-small}
+use Rattle.kmac.proofs.CodeLaws.{place-small}
 use borrow.Author.Needs.{needs}
 use Rattle.kmac.proofs.kmac_find.Statement.{statement}
 use Rattle.kmac.proofs.kmac_find.Tie as tie
@@ -31,8 +32,8 @@ cast-result c =
 enum-known-h : tie.Need-enum-known-h
 enum-known-h c = search needs
 
-refused-requires : tie.Need-refused-requires
-refused-requires c κs = search needs
+refusal-code-requires : tie.Need-refusal-code-requires
+refusal-code-requires c κs = search needs
 
 returns : tie.Need-returns
 returns c =
@@ -45,7 +46,7 @@ returns-2 c =
     let find = c .before .before .before .before in
     let a = find .before .before .args in
     let e = sym (ap foundAs (h .1)) ∙ find .find .ensures in
-    (told-refused (h .0 .0) (c .refused .result) (c .refused .ensures) (ap placeIn e), ap (λ (f : Finding). endAfter f (a .«end» .now)) e)
+    (told-refused (h .0 .0) (c .refusal-code .result) (c .refusal-code .ensures) (ap placeIn e), ap (λ (f : Finding). endAfter f (a .«end» .now)) e)
 
 pub kmac-find-spec : {M : Type 1} → statement M
 kmac-find-spec =
@@ -55,6 +56,6 @@ kmac-find-spec =
     enum-known-n
     cast-result
     enum-known-h
-    refused-requires
+    refusal-code-requires
     returns
     returns-2)

@@ -1,0 +1,2 @@
+pub mod ConnectionBuffer
+pub mod Claims

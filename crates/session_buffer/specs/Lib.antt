@@ -1,0 +1,2 @@
+pub mod SessionBuffer
+pub mod Claims
