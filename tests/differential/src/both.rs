@@ -36,7 +36,7 @@ pub struct Both {
     pub calls: u64,
     pub seen: Coverage,
     chain: Chain,
-    judge: Judge,
+    pub judge: Judge,
 }
 
 impl Both {
@@ -341,11 +341,11 @@ pub fn convert_call(target: Edition, from: &[u8], to: usize) -> String {
 }
 
 /// The length and the first bytes of a store: edition and counts stand there.
-fn store_of(store: &[u8]) -> String {
+pub fn store_of(store: &[u8]) -> String {
     let head = hex(&store[..store.len().min(KEYS_AT)]);
     format!("store of {} bytes, {head}", store.len())
 }
 
-fn hex(bytes: &[u8]) -> String {
+pub fn hex(bytes: &[u8]) -> String {
     bytes.iter().map(|byte| format!("{byte:02x}")).collect()
 }

@@ -6,12 +6,13 @@ use std::fmt;
 
 use reference::message::kind;
 use reference::message::response::UNRECOVERABLE_DATABASE;
-use reference::refusal::{H1, H12, H14};
+use reference::refusal::{H1, H10, H11, H12, H14, H2};
 use reference::store::{Edition, EDITIONS, EDITION_1, EDITION_2};
 
 use crate::converted::{Way, LIMITS};
 use crate::layout::{fits, has_other_header, held, period};
 use crate::repeated::BEFORE_REPEATED;
+use crate::squares::{self, Met};
 use crate::unsound::{Condition, CONDITIONS, WITH_REQUESTS};
 use crate::wire::{RESPONSE_AT, RESULTS_AT, TYPE_AT};
 
@@ -29,6 +30,8 @@ pub enum Call {
     EmptyStore,
     ToEdition1,
     ToEdition2,
+    /// An event of a connection.
+    Event,
 }
 
 /// One answer that can be told from the others.
@@ -93,6 +96,8 @@ pub enum Mark {
     OpenedOverNumber,
     /// A conversion that was done or refused in this way.
     Conversion(Call, Way),
+    /// What an event of a connection showed.
+    Connection(Met),
     /// A message with other KMACs in the second of two runs.
     OtherKmacs,
     /// A call after which two runs held a key unlike.
@@ -135,6 +140,7 @@ impl fmt::Display for Mark {
             Mark::TakenAfter9 => write!(f, "number taken after RESPONSE 9"),
             Mark::OpenedOverNumber => write!(f, "session opened over a number"),
             Mark::Conversion(call, way) => write!(f, "{call:?} with {way:?}"),
+            Mark::Connection(met) => write!(f, "{met}"),
             Mark::OtherKmacs => write!(f, "message with other KMACs"),
             Mark::HeldUnlike => write!(f, "key held unlike"),
         }
@@ -248,6 +254,12 @@ impl Coverage {
         for mark in mixed(results) {
             self.see(store, mark);
         }
+    }
+
+    /// What an event of a connection showed; the store is told where set-up started or was refused.
+    pub fn connection(&mut self, store: &[u8], met: Met) {
+        let store = if met.is_of_store() { store } else { &[] };
+        self.see(store, Mark::Connection(met));
     }
 
     /// How many calls lent a store of this edition.
@@ -460,13 +472,30 @@ fn of_conversion(source: Edition, call: Call, target: Edition) -> Vec<Seen> {
     .concat()
 }
 
+/// What the events of connections can answer and show.
+pub fn of_connections() -> Vec<Seen> {
+    let marks = |met: Vec<Met>| met.into_iter().map(Mark::Connection).collect();
+    let over_stores = [
+        answers(Call::Event, &[H2, H11, H12]),
+        vec![Mark::HeaderOfOther(Call::Event)],
+        marks(squares::required_of_stores()),
+    ];
+    [
+        without_store(answers(Call::Event, &[H1, H2, H10])),
+        without_store(marks(squares::required())),
+        in_each_edition(over_stores.concat()),
+    ]
+    .concat()
+}
+
 fn ways<const N: usize>(call: Call, ways: [Way; N]) -> Vec<Mark> {
     ways.map(|way| Mark::Conversion(call, way)).to_vec()
 }
 
 #[cfg(test)]
 mod tests {
-    use super::{of_conversions, of_pairs, of_sessions, of_units, Call, Coverage, Mark};
+    use super::{of_connections, of_conversions, of_pairs, of_sessions, of_units};
+    use super::{Call, Coverage, Mark};
     use crate::random::Random;
     use crate::stores::Names;
     use reference::store::{encode, Entry, EDITIONS, EDITION_1, EDITION_2};
@@ -474,7 +503,13 @@ mod tests {
     #[test]
     fn nothing_seen_is_all_missing() {
         let seen = Coverage::default();
-        for required in [of_sessions(), of_units(), of_conversions(), of_pairs()] {
+        let all = [
+            of_sessions(),
+            of_units(),
+            of_conversions(),
+            of_connections(),
+        ];
+        for required in all.into_iter().chain([of_pairs()]) {
             assert_eq!(seen.missing(&required), required);
         }
     }

@@ -1,4 +1,4 @@
-//! Compares libkmac.a with the second program, byte for byte: each call's answer, the session,
+//! Compares libkmac.a with the second program, byte for byte: each call's answer, the session or connection,
 //! the store and the output, with guards around every lent buffer.
 //!
 //! First systematic tests over stores of both editions, then rounds of random sequences and of
@@ -8,13 +8,21 @@
 mod both;
 mod chain;
 mod compare;
+mod connect;
+mod connected;
+mod connections;
+mod conversations;
 mod convert;
 mod converted;
 mod coverage;
+mod crafted;
 mod damage;
 mod edges;
+mod events;
+mod exchanges;
 mod faults;
 mod generator;
+mod incoming;
 mod latest;
 mod layout;
 mod lent;
@@ -26,6 +34,7 @@ mod made;
 mod model;
 mod options;
 mod pairs;
+mod parties;
 mod periods;
 mod random;
 mod repeated;
@@ -34,7 +43,10 @@ mod search;
 mod serials;
 mod sessions;
 mod soundness;
+mod squares;
+mod starts;
 mod stores;
+mod table;
 mod tally;
 mod transactions;
 mod units;
@@ -45,13 +57,16 @@ use std::process::ExitCode;
 use std::time::{Duration, Instant};
 
 use both::{Both, Failure, Step};
-use coverage::{of_conversions, of_pairs, of_sessions, of_units, Coverage, Seen};
+use coverage::{of_connections, of_conversions, of_pairs, of_sessions, of_units};
+use coverage::{Coverage, Seen};
 use options::Options;
 use pairs::Pairs;
 use reference::store::{EDITIONS, EDITION_2};
 
 /// Calls of a random sequence, and of each run of a pair.
 const STEPS: usize = 400;
+/// Events of a round between two sides of a connection.
+const EVENTS: usize = 120;
 /// Rounds of the gate.
 const ROUNDS: u64 = 3000;
 
@@ -105,6 +120,9 @@ impl Tests {
         convert::all(both, seed)?;
         units::all(both, seed)?;
         lists::all(both, seed)?;
+        connect::all(both, seed)?;
+        starts::all(both, seed)?;
+        conversations::all(both, seed)?;
         for edition in EDITIONS {
             self.pairs.other_parity_is_seen(edition, seed)?;
         }
@@ -123,6 +141,7 @@ impl Tests {
             sessions::sequence(&mut self.random, seed, STEPS)?;
             self.pairs.pair(!seed, STEPS)?;
             units::some(&mut self.random, seed)?;
+            exchanges::sequence(&mut self.random, seed, EVENTS)?;
             self.round += 1;
         }
         Ok(())
@@ -142,7 +161,13 @@ impl Tests {
 
     /// The summary; a failure where an answer was never seen.
     fn conclude(&self) -> ExitCode {
-        let all = [of_sessions(), of_units(), of_conversions()].concat();
+        let all = [
+            of_sessions(),
+            of_units(),
+            of_conversions(),
+            of_connections(),
+        ]
+        .concat();
         let part = |name, seen, required, runs| Part {
             name,
             seen,

@@ -36,7 +36,7 @@ pub fn bytes_of(session: &Session) -> SessionBytes {
 }
 
 /// Hn is -n.
-fn refused(house: u8) -> i32 {
+pub fn refused(house: u8) -> i32 {
     -i32::from(house)
 }
 

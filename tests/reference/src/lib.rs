@@ -12,6 +12,7 @@ pub mod published;
 pub mod reader;
 pub mod refusal;
 pub mod session;
+pub mod setup;
 pub mod store;
 
 #[cfg(test)]

@@ -1,5 +1,9 @@
 //! A second console: reads the lines that crates/console reads, and prints what it must print.
 
+#[path = "console/connections.rs"]
+mod connections;
+
+use connections::Connections;
 use reference::authentication::{build, check, session_keys};
 use reference::conversion::{to_edition_1, to_edition_2};
 use reference::hex::encode;
@@ -13,7 +17,7 @@ use std::ops::RangeInclusive;
 /// The longest line.
 const LINE: usize = 76_100;
 
-const USAGE: [(&str, &str); 12] = [
+const USAGE: [(&str, &str); 23] = [
     (
         "begin",
         "begin OWN PEER NUMBER (identities of 8 hex digits, NUMBER 0 to 65535)",
@@ -32,6 +36,32 @@ const USAGE: [(&str, &str); 12] = [
         "check",
         "check DESTINATION DIRECTION UNIT (6 hex digits, 0 or 1, two hex digits a byte)",
     ),
+    (
+        "connection",
+        "connection NAME IDENTITY (a or b, 8 hex digits: makes it idle)",
+    ),
+    (
+        "call",
+        "call NAME PEER T RB (a or b, 8 hex digits each, random number of 16)",
+    ),
+    (
+        "indicate",
+        "indicate NAME T RA UNIT (a or b, 8 and 16 hex digits, two hex digits a byte)",
+    ),
+    (
+        "confirm",
+        "confirm NAME UNIT (a or b, two hex digits a byte)",
+    ),
+    (
+        "bring",
+        "bring NAME KIND UNIT (a or b; 1 is AU3, 2 AR, 3 DT; two hex digits a byte)",
+    ),
+    ("respond", "respond NAME (a or b)"),
+    ("say", "say NAME DATA (a or b, two hex digits a byte)"),
+    ("release", "release NAME REASON SUB (a or b, 0 to 255 each)"),
+    ("lost", "lost NAME REASON (a or b, 0 to 255)"),
+    ("end", "end NAME UNIT (a or b, two hex digits a byte)"),
+    ("late", "late NAME (a or b)"),
     (
         "store",
         "store HEX (3852 or 38012 bytes, two hex digits a byte)",
@@ -96,6 +126,7 @@ struct Bench {
     session: Session,
     store: Vec<u8>,
     keys: Option<[u8; 24]>,
+    connections: Connections,
 }
 
 fn main() {
@@ -119,6 +150,7 @@ fn main() {
         },
         store: store::encode(EDITION_1, &[]),
         keys: None,
+        connections: Connections::NONE,
     };
     for (number, line) in lines.iter().enumerate() {
         bench.line(number + 1, line);
@@ -197,7 +229,7 @@ impl Bench {
             "begin" | "keys" | "build" | "check" => 3,
             "search" => 2,
             "message" | "store" | "edition" => 1,
-            _ => 0,
+            _ => connections::fields_of(name).unwrap_or(0),
         };
         if fields.len() < count {
             return Err("too few words");
@@ -225,7 +257,8 @@ impl Bench {
             "convert" => self.convert(),
             "show" => self.show(),
             "empty" => self.take_empty(),
-            _ => help(),
+            "help" => help(),
+            _ => self.connections.line(name, fields, &self.store)?,
         }
         Ok(())
     }

@@ -1,5 +1,12 @@
 //! Prints the input of an example for the console: `console_examples update`, `torn`, `yards`, `depot`, `repeated`, `convert` or `lines`.
 
+#[path = "console_examples/connection_lines.rs"]
+mod connection_lines;
+#[path = "console_examples/side.rs"]
+mod side;
+#[path = "console_examples/two_yards.rs"]
+mod two_yards;
+
 use reference::authentication::{build, session_keys};
 use reference::hex::encode;
 use reference::message::{self, kind};
@@ -143,6 +150,11 @@ fn entities(serial: u32, list: &[Identity]) -> Vec<u8> {
 
 fn search(peer: Identity, t: [u8; 4]) {
     println!("search {} {}", encode(&peer), encode(&t));
+}
+
+/// A random number that is easily seen in a unit.
+fn number(digit: u8) -> [u8; 8] {
+    std::array::from_fn(|i| digit << 4 | i as u8)
 }
 
 fn keys(place: usize) {
@@ -309,6 +321,7 @@ fn yards() {
     println!("# The same order for this tug.");
     build_line(TUG, 0, b"clear the siding");
     check_line(TUG, 0, &unit(&kmac(1), TUG, false, b"clear the siding"));
+    two_yards::connections();
 }
 
 /// The railways of the border depot: the second byte of their radio block centres.
@@ -512,10 +525,12 @@ fn lines() {
     println!(
         "build e6a541 0 00\ncheck e6a541 0 00\nbuild e6a541 2 00\ncheck e6a5 0 00\nshow\nshow all"
     );
+    connection_lines::faults();
     waiting();
     commands();
     responses();
     units();
+    connection_lines::events();
     editions();
     conversions();
     unsound();
@@ -636,6 +651,7 @@ fn large_stores(mut session: Session) {
     // An end of one digit that is not zero.
     search(TUG, [0, 0, 0, 10]);
     keys(1);
+    connection_lines::over_edition_2(&bytes);
     put_header(&mut bytes, &store::encode(EDITION_1, &[]));
     store_line(&bytes);
     println!("show\nconvert");
@@ -739,6 +755,7 @@ fn unsound() {
     println!("show\nconvert\nshow");
     search(RBC, NOON);
     keys(1);
+    connection_lines::over_unsound(&bytes);
     let mut session = Session::open(TUG, 1, 1);
     session.send(kind::DELETE_KEYS, &requests(&[identifier(1)]));
     println!("store 00\nempty\nshow");

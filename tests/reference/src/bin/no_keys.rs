@@ -1,17 +1,25 @@
 //! Says whether a byte of a key shows in what the console wrote: `no_keys INPUT OUTPUT`.
 //!
 //! Looks for every four bytes in a row of each KMAC that the input adds or stores, and of each
-//! session key that the input derives, as hex digits in the output.
+//! session key that the input derives, as hex digits in the output. Each AU2 and AU3 in the output
+//! must be one that these session keys make, so that no connection's is left out.
 
 use reference::authentication::session_keys;
 use reference::hex::encode;
 use reference::message::{body, kind, Body, Header, HEADER_LENGTH};
+use reference::setup::units::{au2, au3, read_au1, session_key};
+use reference::setup::Connection;
 use reference::store::{Edition, Request, KEYS_AT, RECORD_LENGTH};
+use reference::Identity;
+use std::collections::HashSet;
 
 type Key = [u8; 24];
+type Random = [u8; 8];
 
 /// A record's KMAC stands behind issuer and serial (01, "The key store").
 const KMAC_AT: usize = 8;
+/// Where an AU2 has RA (002, Table 9).
+const RA_AT: usize = 5;
 
 fn main() {
     let mut names = std::env::args().skip(1);
@@ -20,34 +28,47 @@ fn main() {
         std::process::exit(2);
     };
     let read = |name: &String| std::fs::read_to_string(name).expect("the file can be read");
-    let keys = keys_of(&read(&input));
-    let shown = pieces_shown(&keys, &read(&output));
+    let (lines, text) = (read(&input), read(&output));
+    let keys = keys_of(&lines);
+    let shown = pieces_shown(&keys, &text);
+    let units = units_of(&text);
+    let unknown = unknown_of(&units, &lines);
     println!(
-        "{output}: {} keys, {shown} pieces of them shown",
-        keys.len()
+        "{output}: {} keys, {shown} pieces of them shown; {} units of set-up, {unknown} under no such key",
+        keys.len(),
+        units.len()
     );
-    if keys.is_empty() || shown > 0 {
+    if keys.is_empty() || shown > 0 || unknown > 0 {
         std::process::exit(1);
     }
 }
 
-/// Each KMAC of the input, and each session key made of one with the random numbers of a line.
+/// Each KMAC of the input, and each session key made of one with random numbers of the input.
 fn keys_of(input: &str) -> Vec<Key> {
-    let mut kmacs: Vec<Key> = input.lines().flat_map(kmacs_of).collect();
+    let kmacs = kmacs_of(input);
+    let numbers = input.lines().filter_map(numbers_of);
+    let derived = numbers.flat_map(|(ra, rb)| {
+        let keys = |kmac: &Key| session_keys(kmac, &ra, &rb).ok();
+        kmacs.iter().filter_map(keys).collect::<Vec<Key>>()
+    });
+    let mut keys: Vec<Key> = derived
+        .chain(connections_of(input).iter().map(|side| side.key))
+        .chain(kmacs.iter().copied())
+        .collect();
+    keys.sort_unstable();
+    keys.dedup();
+    keys
+}
+
+fn kmacs_of(input: &str) -> Vec<Key> {
+    let mut kmacs: Vec<Key> = input.lines().flat_map(added_or_stored).collect();
     kmacs.sort_unstable();
     kmacs.dedup();
-    let derived: Vec<Key> = input
-        .lines()
-        .filter_map(numbers_of)
-        .flat_map(|(ra, rb)| kmacs.iter().map(move |kmac| (kmac, ra, rb)))
-        .filter_map(|(kmac, ra, rb)| session_keys(kmac, &ra, &rb).ok())
-        .collect();
-    kmacs.extend(derived);
     kmacs
 }
 
 /// The KMACs that a line adds or stores.
-fn kmacs_of(line: &str) -> Vec<Key> {
+fn added_or_stored(line: &str) -> Vec<Key> {
     let words: Vec<&str> = line.split_whitespace().collect();
     match words[..] {
         ["message", digits] => added(&bytes(digits)),
@@ -85,12 +106,101 @@ fn added(message: &[u8]) -> Vec<Key> {
 }
 
 /// The random numbers of a line that derives session keys.
-fn numbers_of(line: &str) -> Option<([u8; 8], [u8; 8])> {
+fn numbers_of(line: &str) -> Option<(Random, Random)> {
     let words: Vec<&str> = line.split_whitespace().collect();
     let ["keys", _, ra, rb] = words[..] else {
         return None;
     };
-    Some((bytes(ra).try_into().ok()?, bytes(rb).try_into().ok()?))
+    Some((array(ra)?, array(rb)?))
+}
+
+/// What the lines so far tell of one of the console's connections.
+#[derive(Default)]
+struct Side {
+    own: Identity,
+    /// Peer and RB of each call since the connection was made idle: which was taken is not asked.
+    calls: Vec<(Identity, Random)>,
+}
+
+/// Each connection that the input can set up, under the session key of each KMAC.
+fn connections_of(input: &str) -> Vec<Connection> {
+    let kmacs = kmacs_of(input);
+    let mut sides = <[Side; 2]>::default();
+    let set_ups = input
+        .lines()
+        .flat_map(|line| set_ups_of(line, &mut sides).unwrap_or_default());
+    set_ups
+        .flat_map(|side| {
+            let under = |kmac| Connection {
+                key: session_key(kmac, &side.ra, &side.rb),
+                ..side
+            };
+            kmacs.iter().map(under).collect::<Vec<Connection>>()
+        })
+        .collect()
+}
+
+/// The connections, without a key, that a line gives both random numbers of.
+fn set_ups_of(line: &str, sides: &mut [Side; 2]) -> Option<Vec<Connection>> {
+    let words: Vec<&str> = line.split_whitespace().collect();
+    let names = ["a", "b"];
+    let side = &mut sides[names.iter().position(|name| words.get(1) == Some(name))?];
+    let set_up = |responder, (peer, rb), ra| Connection {
+        responder,
+        own: side.own,
+        peer,
+        ra,
+        rb,
+        ..Connection::NONE
+    };
+    match words[..] {
+        ["connection", _, own] => {
+            *side = Side {
+                own: array(own)?,
+                calls: Vec::new(),
+            };
+            None
+        }
+        ["call", _, peer, _, rb] => {
+            side.calls.push((array(peer)?, array(rb)?));
+            None
+        }
+        ["indicate", _, _, ra, unit] => {
+            let caller = read_au1(&bytes(unit)).ok()?;
+            Some(vec![set_up(true, caller, array(ra)?)])
+        }
+        ["confirm", _, unit] => {
+            let ra = *bytes(unit).get(RA_AT..)?.first_chunk()?;
+            let called = |&call| set_up(false, call, ra);
+            Some(side.calls.iter().map(called).collect())
+        }
+        _ => None,
+    }
+}
+
+/// Each AU2 and AU3 that the console sent: a session key was made for it.
+fn units_of(output: &str) -> Vec<&str> {
+    output
+        .lines()
+        .filter_map(|line| {
+            line.strip_prefix("T-CONN.resp AU2 ")
+                .or(line.strip_prefix("AU3 "))
+        })
+        .collect()
+}
+
+/// How many of these units are none that a connection of the input sends.
+fn unknown_of(units: &[&str], input: &str) -> usize {
+    let sent = |side: &Connection| match side.responder {
+        true => encode(&au2(side)),
+        false => encode(&au3(side)),
+    };
+    let known: HashSet<String> = connections_of(input).iter().map(sent).collect();
+    units.iter().filter(|unit| !known.contains(**unit)).count()
+}
+
+fn array<const N: usize>(digits: &str) -> Option<[u8; N]> {
+    bytes(digits).try_into().ok()
 }
 
 /// The bytes of a text in hex; none where it is no such text.
@@ -120,6 +230,8 @@ mod tests {
 
     const DEPOT: &str = include_str!("../../../../examples/depot.txt");
     const CONVERT: &str = include_str!("../../../../examples/convert.txt");
+    const YARDS: &str = include_str!("../../../../examples/yards.txt");
+    const YARDS_SAID: &str = include_str!("../../../../examples/yards.out");
 
     #[test]
     fn keys_are_found() {
@@ -129,6 +241,25 @@ mod tests {
         assert_eq!(keys_of(DEPOT).len(), 150);
         // 65 keys, one more than edition 1 takes, and a session key of each.
         assert_eq!(keys_of(CONVERT).len(), 130);
+        // Two keys, each with one pair of random numbers that is held and four of connections: the
+        // second AU2 meets the numbers of three calls.
+        assert_eq!(keys_of(YARDS).len(), 12);
+    }
+
+    /// The session keys that the console makes are those that are looked for.
+    #[test]
+    fn every_set_up_is_known() {
+        let units = units_of(YARDS_SAID);
+        assert_eq!(units.len(), 4);
+        assert_eq!(unknown_of(&units, YARDS), 0);
+        // Without the lines of one side, or a byte that they bring, its units are told.
+        for (told, unknown) in [("indicate", 2), ("call", 2), ("confirm", 2), ("message", 4)] {
+            let others = |line: &&str| !line.starts_with(told);
+            let input: Vec<&str> = YARDS.lines().filter(others).collect();
+            assert_eq!(unknown_of(&units, &input.join("\n")), unknown, "{told}");
+        }
+        let input = YARDS.replace("e6e7", "e6e8");
+        assert_eq!(unknown_of(&units, &input), 2);
     }
 
     #[test]
@@ -168,10 +299,12 @@ mod tests {
 
     #[test]
     fn a_piece_is_found() {
-        for key in keys_of(INPUT) {
-            let doctored = format!("{OUTPUT}unit {}\n", encode(&key[20..]).to_uppercase());
-            assert_eq!(pieces_shown(&keys_of(INPUT), OUTPUT), 0);
-            assert!(pieces_shown(&keys_of(INPUT), &doctored) > 0);
+        for (input, output) in [(INPUT, OUTPUT), (YARDS, YARDS_SAID)] {
+            assert_eq!(pieces_shown(&keys_of(input), output), 0);
+            for key in keys_of(input) {
+                let doctored = format!("{output}unit {}\n", encode(&key[20..]).to_uppercase());
+                assert!(pieces_shown(&keys_of(input), &doctored) > 0);
+            }
         }
     }
 }

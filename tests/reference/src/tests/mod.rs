@@ -9,6 +9,7 @@ mod runs;
 mod search;
 mod self_test;
 mod session;
+mod setup;
 mod slips;
 mod soundness;
 mod store;
