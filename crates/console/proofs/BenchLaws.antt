@@ -28,7 +28,8 @@ use Rattle.lines.specs.Digits.{bytesOf, Puts}
 use Rattle.lines.specs.Words.{word}
 use Rattle.authentication.specs.Keys.{derived}
 use Rattle.console.specs.Units.{keyedBy, keysBy}
-use Rattle.console.specs.Bench.{bytesIn, limitsOf, sizeOf, storeOf, targetOf, conversion, largeThen, storeThen, emptyOf, takenIn, storeIn, largeBy, largeIn, filledBy, lineBy}
+use Rattle.console.specs.Lent.{bytesIn}
+use Rattle.console.specs.Bench.{limitsOf, sizeOf, storeOf, targetOf, conversion, largeThen, storeThen, emptyOf, takenIn, storeIn, largeBy, largeIn, filledBy, lineBy}
 
 -- what is read of word k into an empty buffer
 pub bytes-read : (text w d : List ℕ) (k n : ℕ) → w ≡ word text k → Puts (take (length {A = ℕ} (replicate 38050 0)) (bytesOf w)) (replicate 38050 0) d n → take n d ≡ bytesIn text k

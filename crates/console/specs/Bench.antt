@@ -1,4 +1,4 @@
--- What a line leaves at the bench: the session, the store, and the line that is read.
+-- What a line leaves at the bench: the session, the store, the connections, and the line that is read.
 -- Assumes nothing.
 use mathlib.Core.Path.{_≡_}
 use mathlib.Core.List.{List, []}
@@ -18,30 +18,24 @@ use Rattle.store.specs.Layout.{total, edition1, edition2, editionOf}
 use Rattle.store.specs.Store.{encode}
 use Rattle.refusal.specs.House.{Answer, house, gives, unlessRefused}
 use Rattle.convert.specs.Convert.{answered, converted}
-use Rattle.lines.specs.Digits.{bytesOf}
-use Rattle.lines.specs.Words.{word}
 use Rattle.lines.specs.Orders.{orderOf}
 use Rattle.lines.specs.declared.orders.Order.{Order}
 use Rattle.lines.specs.declared.orders.Order.the-variants as order
 use Rattle.authentication.specs.Keys.{derived}
 use Rattle.console.specs.declared.bench.Bench.{Bench}
+use Rattle.console.specs.declared.connections.Sides.{Sides}
 use Rattle.console.specs.Units.{soundKmac, keyedBy, keysBy}
+use Rattle.console.specs.Lent.{output, bytesIn}
+use Rattle.console.specs.Connections.{atRest, sidesBy}
 
--- the output buffer of each call
-abbrev pub output : List ℕ
-output = replicate 1032 0
-
--- the bytes in hex of word k, of which there is room for 38,050
-abbrev pub bytesIn : List ℕ → ℕ → List ℕ
-bytesIn text k = take 38050 (bytesOf (word text k))
-
--- before the first line: a closed session, edition 1, and no session keys
+-- before the first line: a closed session, edition 1, no session keys, and both connections idle
 abbrev pub atStart : Bench
 atStart =
     record {
       session = record { state = 0; own = 0; peer = 0; next = 0; expected = 0; remembered = false; transaction = 0 };
       large = false;
       held = false;
+      sides = record { a = atRest 0; b = atRest 0 };
       line = 1;
       filled = 0;
       more = true;
@@ -109,38 +103,42 @@ abbrev pub lineBy : List ℕ → ℕ → List ℕ → List ℕ
 lineBy line n more = cond (leb (n + length more) (length line)) (splice line n more) line
 
 abbrev pub withFilled : Bench → ℕ → Bench
-withFilled b n = record { session = b .session; large = b .large; held = b .held; line = b .line; filled = n; more = b .more }
+withFilled b n = record { session = b .session; large = b .large; held = b .held; sides = b .sides; line = b .line; filled = n; more = b .more }
 
 -- the next line, from its start
 abbrev pub nextLine : Bench → Bench
-nextLine b = record { session = b .session; large = b .large; held = b .held; line = (b .line + 1) % 18446744073709551616; filled = 0; more = b .more }
+nextLine b = record { session = b .session; large = b .large; held = b .held; sides = b .sides; line = (b .line + 1) % 18446744073709551616; filled = 0; more = b .more }
 
 -- ---- what a line does
 
--- what is held at the bench: the session, the edition and its store, whether session keys are held, and their bytes
+-- what is held at the bench: the session, the edition and its store, whether session keys are held, their bytes, and the connections
 pub record Held : Type 0 where
   pub session : Session
   pub large : Bool
   pub store : List ℕ
   pub keyed : Bool
   pub keys : List ℕ
+  pub sides : Sides
 
 abbrev pub heldAt : Bench → List ℕ → List ℕ → Held
-heldAt b s k = record { session = b .session; large = b .large; store = storeOf (b .large) s; keyed = b .held; keys = k }
+heldAt b s k = record { session = b .session; large = b .large; store = storeOf (b .large) s; keyed = b .held; keys = k; sides = b .sides }
 
 abbrev pub withSession : Session → Held → Held
-withSession e h = record { session = e; large = h .large; store = h .store; keyed = h .keyed; keys = h .keys }
+withSession e h = record { session = e; large = h .large; store = h .store; keyed = h .keyed; keys = h .keys; sides = h .sides }
 
 abbrev pub withStore : Bool → List ℕ → Held → Held
-withStore large s h = record { session = h .session; large = large; store = s; keyed = h .keyed; keys = h .keys }
+withStore large s h = record { session = h .session; large = large; store = s; keyed = h .keyed; keys = h .keys; sides = h .sides }
 
 abbrev pub withKeys : Bool → List ℕ → Held → Held
-withKeys keyed k h = record { session = h .session; large = h .large; store = h .store; keyed = keyed; keys = k }
+withKeys keyed k h = record { session = h .session; large = h .large; store = h .store; keyed = keyed; keys = k; sides = h .sides }
+
+abbrev pub withSides : Sides → Held → Held
+withSides s h = record { session = h .session; large = h .large; store = h .store; keyed = h .keyed; keys = h .keys; sides = s }
 
 abbrev pub afterMessage : Outcome → Held → Held
 afterMessage o h = withStore (h .large) (o .store) (withSession (o .session) h)
 
--- what is held once a line was obeyed; begin, message, keys, store, edition, convert and empty change it, and no other order does
+-- what is held once a line was obeyed; begin, message, keys, what is asked of a connection, store, edition, convert and empty change it, and no other order does
 abbrev pub obeyed : Order → List ℕ → Held → Held
 obeyed order.Nothing text h = h
 obeyed order.Note text h = h
@@ -151,6 +149,7 @@ obeyed (order.Keys place ra rb) text h =
     withKeys (keyedBy (derived (soundKmac (h .store) place)) (h .keyed)) (keysBy (soundKmac (h .store) place) ra rb (h .keys)) h
 obeyed (order.Build destination direction) text h = h
 obeyed (order.Check destination direction) text h = h
+obeyed (order.Connection second what) text h = withSides (sidesBy second what text (h .store) (h .sides)) h
 obeyed order.Store text h = withStore (largeIn text (h .large)) (storeIn text (h .store)) h
 obeyed (order.Edition large) text h = withStore large (emptyOf large) h
 obeyed order.Convert text h = withStore (largeThen (conversion (h .large) (h .store)) (h .large)) (storeThen (h .large) (h .store)) h
@@ -166,6 +165,6 @@ lineDone text n h = cond (ltb (length text) n) h (obeyed (orderOf (take n text))
 
 -- the bench r, its buffer t and the keys k are what is held, the line being read that of b
 pub record Leaves (h : Held) (b r : Bench) (t k : List ℕ) : Type 0 where
-  pub bench-is : r ≡ record { session = h .session; large = h .large; held = h .keyed; line = b .line; filled = b .filled; more = b .more }
+  pub bench-is : r ≡ record { session = h .session; large = h .large; held = h .keyed; sides = h .sides; line = b .line; filled = b .filled; more = b .more }
   pub store-is : storeOf (h .large) t ≡ h .store
   pub keys-are : k ≡ h .keys

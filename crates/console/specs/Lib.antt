@@ -1,2 +1,4 @@
 pub mod Units
+pub mod Lent
+pub mod Connections
 pub mod Bench

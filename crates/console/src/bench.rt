@@ -1,5 +1,7 @@
-// The module at the bench: the session, the store and the session keys that the lines work on.
+// The module at the bench: the session, the store, the session keys and the connections that the lines work on.
 use crate::answers::shown;
+use crate::connections;
+use crate::connections::Sides;
 use crate::faults::bad;
 use crate::faults::help;
 use crate::faults::too_long;
@@ -33,6 +35,7 @@ pub struct Bench {
     pub large: bool,
     // Whether session keys are held.
     pub held: bool,
+    pub sides: Sides,
     // The number of the line that is read, and how many bytes of it are there: more than it has room for where it is too long.
     pub line: u64,
     pub filled: usize,
@@ -57,6 +60,7 @@ impl Bench {
             session,
             large: false,
             held: false,
+            sides: connections::none(),
             line: 1,
             filled: 0,
             more: true,
@@ -96,6 +100,16 @@ impl Bench {
             }
             Order::Check(destination, direction) => {
                 check(self.held, text, keys, destination, direction);
+                self
+            }
+            Order::Connection(second, what) => {
+                self.sides = connections::obey(
+                    self.sides,
+                    second,
+                    what,
+                    text,
+                    store_of(self.large, store),
+                );
                 self
             }
             Order::Store => {

@@ -12,6 +12,8 @@ ghost use lib.ListN.{length};
 
 mod answers;
 mod bench;
+mod connections;
+mod events;
 mod faults;
 mod sessions;
 mod show;

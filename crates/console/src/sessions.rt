@@ -15,7 +15,8 @@ ghost use mathlib.Core.Path.{_≡_};
 ghost use Rattle.session.specs.Sessions.{begin as beginning};
 ghost use Rattle.runs.specs.Calls.{sessionOf};
 ghost use lib.ListN.{length};
-ghost use Rattle.console.specs.Bench.{output, storeOf, received};
+ghost use Rattle.console.specs.Bench.{storeOf, received};
+ghost use Rattle.console.specs.Lent.{output};
 
 pub fn begin(session: Session, own: u32, peer: u32, number: u16) -> Session
     ensures { λ r. ⌜ r ≡ sessionOf (beginning own peer number output) session ⌝ }

@@ -2,53 +2,29 @@
 -- Assumes nothing.
 use mathlib.Core.Bool.{Bool, true, false, not}
 use mathlib.Core.List.{List, [], _∷_}
-use mathlib.Core.Path.{_≡_}
-use Prim.Native.Nat.{ℕ, _+_, _*_, _%_, _/_, _^_, _≤_, _<_}
-use lib.Dec.{leb, ltb, eqb}
+use Prim.Native.Nat.{ℕ, _+_}
+use lib.Dec.{ltb, eqb}
 use lib.ListN.{length, getD}
-use Rattle.octets.specs.Bytes.{between, same}
-use Rattle.lines.specs.Digits.{areDigits, numeral}
+use Rattle.octets.specs.Bytes.{same}
 use Rattle.lines.specs.Words.{word}
+use Rattle.lines.specs.Fields.{hexField, decimalField, bytesField}
+use Rattle.lines.specs.Connections.{nameField, verbFields, verbText, askedOf}
 use Rattle.lines.specs.declared.orders.Command.{Command}
 use Rattle.lines.specs.declared.orders.Command.the-variants as command
 use Rattle.lines.specs.declared.orders.Named.{Named}
 use Rattle.lines.specs.declared.orders.Named.the-variants as named-as
-use Rattle.lines.specs.declared.orders.Fault.{Fault}
-use Rattle.lines.specs.declared.orders.Fault.the-variants as fault
-use Rattle.lines.specs.declared.orders.Field.{Field}
-use Rattle.lines.specs.declared.orders.Field.the-variants as field
+use Rattle.lines.specs.declared.fields.Fault.the-variants as fault
+use Rattle.lines.specs.declared.fields.Field.{Field}
+use Rattle.lines.specs.declared.fields.Field.the-variants as field
+use Rattle.lines.specs.declared.connections.Verb.{Verb}
+use Rattle.lines.specs.declared.connections.Verb.the-variants as verb
+use Rattle.lines.specs.declared.connections.Asked.{Asked}
+use Rattle.lines.specs.declared.connections.Told.{Told}
+use Rattle.lines.specs.declared.connections.Told.the-variants as told
 use Rattle.lines.specs.declared.orders.UnitField.{UnitField}
 use Rattle.lines.specs.declared.orders.UnitField.the-variants as unit
 use Rattle.lines.specs.declared.orders.Order.{Order}
 use Rattle.lines.specs.declared.orders.Order.the-variants as order
-
--- ---- fields
-
-abbrev pub pickField : Bool → Field → Field → Field
-pickField true a b = a
-pickField false a b = b
-
--- a number of n hex digits
-unfoldable pub hexField : List ℕ → ℕ → Field
-hexField w n = pickField (areDigits 16 w) (pickField (eqb (length w) n) (field.Value (numeral 16 0 w)) (field.Bad fault.OtherLength)) (field.Bad fault.NotHex)
-
--- a decimal number of at most 16 digits in a range
-unfoldable pub decimalField : List ℕ → ℕ → ℕ → Field
-decimalField w least most =
-    pickField (areDigits 10 w)
-    (pickField (leb (length w) 16)
-    (pickField (between least most (numeral 10 0 w)) (field.Value (numeral 10 0 w)) (field.Bad fault.OutOfRange))
-    (field.Bad fault.OutOfRange))
-    (field.Bad fault.NotDecimal)
-
--- bytes, two hex digits for each: how many
-unfoldable pub bytesField : List ℕ → Field
-bytesField w = pickField (areDigits 16 w) (pickField (eqb (length w % 2) 0) (field.Value (length w / 2)) (field.Bad fault.OddDigits)) (field.Bad fault.NotHex)
-
--- r is the field d, and a number in it is below a bound
-pub record Reads (d : Field) (bound : ℕ) (r : Field) : Type 0 where
-  pub is : r ≡ d
-  pub below : (v : ℕ) → r ≡ field.Value v → v < bound
 
 -- ---- lines with fields
 
@@ -93,6 +69,16 @@ abbrev pub onUnit : Command → UnitField → (ℕ → Bool → Order) → Order
 onUnit c (unit.Value destination direction) k = k destination direction
 onUnit c (unit.Bad f) k = order.Bad f c
 
+-- what is asked of the connection that word 1 names
+abbrev pub onAsked : Command → Told → (Asked → Order) → Order
+onAsked c (told.Is a) k = k a
+onAsked c (told.Bad f) k = order.Bad f c
+
+unfoldable pub connectionOrder : Verb → List ℕ → Order
+connectionOrder v s =
+    onValue (command.Connection v) (nameField (word s 1)) (λ name.
+    onAsked (command.Connection v) (askedOf v s) (λ a. order.Connection (eqb name 1) a))
+
 -- bytes alone
 unfoldable pub bytesOrder : Command → Order → List ℕ → Order
 bytesOrder c o s = onValue c (bytesField (word s 1)) (λ n. o)
@@ -104,6 +90,7 @@ fieldsOrder command.Search s = searchOrder s
 fieldsOrder command.Keys s = keysOrder s
 fieldsOrder command.Build s = onUnit command.Build (unitField s) order.Build
 fieldsOrder command.Check s = onUnit command.Check (unitField s) order.Check
+fieldsOrder (command.Connection v) s = connectionOrder v s
 fieldsOrder command.Store s = bytesOrder command.Store order.Store s
 fieldsOrder command.Edition s = editionOrder s
 fieldsOrder command.Convert s = order.Convert
@@ -113,7 +100,7 @@ fieldsOrder command.Help s = order.Help
 
 -- ---- commands
 
--- begin, message, search, keys, build, check, store, edition, convert, show, empty, help
+-- begin, message, search, keys, build, check, those for a connection, store, edition, convert, show, empty, help
 unfoldable pub textOf : Command → List ℕ
 textOf command.Begin = 98 ∷ 101 ∷ 103 ∷ 105 ∷ 110 ∷ []
 textOf command.Message = 109 ∷ 101 ∷ 115 ∷ 115 ∷ 97 ∷ 103 ∷ 101 ∷ []
@@ -121,6 +108,7 @@ textOf command.Search = 115 ∷ 101 ∷ 97 ∷ 114 ∷ 99 ∷ 104 ∷ []
 textOf command.Keys = 107 ∷ 101 ∷ 121 ∷ 115 ∷ []
 textOf command.Build = 98 ∷ 117 ∷ 105 ∷ 108 ∷ 100 ∷ []
 textOf command.Check = 99 ∷ 104 ∷ 101 ∷ 99 ∷ 107 ∷ []
+textOf (command.Connection v) = verbText v
 textOf command.Store = 115 ∷ 116 ∷ 111 ∷ 114 ∷ 101 ∷ []
 textOf command.Edition = 101 ∷ 100 ∷ 105 ∷ 116 ∷ 105 ∷ 111 ∷ 110 ∷ []
 textOf command.Convert = 99 ∷ 111 ∷ 110 ∷ 118 ∷ 101 ∷ 114 ∷ 116 ∷ []
@@ -141,9 +129,19 @@ namedIn (c ∷ cs) w = pickNamed (same w (textOf c)) (named-as.Is c) (namedIn cs
 abbrev pub benchCommands : List Command
 benchCommands = command.Store ∷ command.Edition ∷ command.Convert ∷ command.Show ∷ command.Empty ∷ command.Help ∷ []
 
+-- those, and what the transport or the timer brings to a connection
+abbrev pub transportCommands : List Command
+transportCommands =
+    command.Connection verb.Indicate ∷ command.Connection verb.Confirm ∷ command.Connection verb.Bring ∷ command.Connection verb.Lost ∷ command.Connection verb.End ∷ command.Connection verb.Late ∷ benchCommands
+
+-- those, the connection itself, and what a user brings to it
+abbrev pub connectionCommands : List Command
+connectionCommands =
+    command.Connection verb.Connection ∷ command.Connection verb.Call ∷ command.Connection verb.Respond ∷ command.Connection verb.Say ∷ command.Connection verb.Release ∷ transportCommands
+
 unfoldable pub commandOf : List ℕ → Named
 commandOf w =
-    namedIn (command.Begin ∷ command.Message ∷ command.Search ∷ command.Keys ∷ command.Build ∷ command.Check ∷ benchCommands) w
+    namedIn (command.Begin ∷ command.Message ∷ command.Search ∷ command.Keys ∷ command.Build ∷ command.Check ∷ connectionCommands) w
 
 -- how many words follow a command
 abbrev pub fieldCount : Command → ℕ
@@ -153,6 +151,7 @@ fieldCount command.Search = 2
 fieldCount command.Keys = 3
 fieldCount command.Build = 3
 fieldCount command.Check = 3
+fieldCount (command.Connection v) = verbFields v
 fieldCount command.Store = 1
 fieldCount command.Edition = 1
 fieldCount command.Convert = 0

@@ -2,12 +2,19 @@
 ghost use mathlib.Core.Path.{_≡_};
 ghost use lib.Dec.{eqb};
 ghost use lib.ListN.{getD};
-ghost use Prim.Native.Nat.{_≤_, _<_, _+_, _*_, _^_};
 ghost use Rattle.octets.specs.Bytes.{same as isSame};
-ghost use Rattle.lines.specs.Words.{word as wordOf};
-ghost use Rattle.lines.specs.Orders.{hexField, decimalField, bytesField, Reads, beginOrder, searchOrder, keysOrder, editionOrder, unitField, onUnit, bytesOrder, fieldsOrder, pickNamed, namedIn, benchCommands, commandOf, fieldCount, hasWord, commandOrder, orderOf};
-use crate::digits::are_digits;
-use crate::digits::number;
+ghost use Rattle.lines.specs.Orders.{beginOrder, searchOrder, keysOrder, editionOrder, unitField, onUnit, connectionOrder, bytesOrder, fieldsOrder, pickNamed, namedIn, benchCommands, transportCommands, connectionCommands, commandOf, fieldCount, hasWord, commandOrder, orderOf};
+use crate::connections::Asked;
+use crate::connections::Told;
+use crate::connections::Verb;
+use crate::connections::fields_of;
+use crate::connections::name_field;
+use crate::connections::verb_fields;
+use crate::fields::Fault;
+use crate::fields::Field;
+use crate::fields::bytes_field;
+use crate::fields::decimal_field;
+use crate::fields::hex_field;
 use crate::words::same;
 use crate::words::word;
 
@@ -18,6 +25,7 @@ pub enum Command {
     Keys,
     Build,
     Check,
+    Connection(Verb),
     Store,
     Edition,
     Convert,
@@ -32,17 +40,6 @@ pub enum Named {
     Unknown,
 }
 
-// Why a line is not read.
-pub enum Fault {
-    TooFewWords,
-    TooManyWords,
-    NotHex,
-    OddDigits,
-    OtherLength,
-    NotDecimal,
-    OutOfRange,
-}
-
 // A line that is read, with its numbers. The bytes of a message, of user data and of a unit stay in the line.
 pub enum Order {
     Nothing,
@@ -53,6 +50,8 @@ pub enum Order {
     Keys(usize, u64, u64),
     Build(u32, bool),
     Check(u32, bool),
+    // Whether it is connection b, and what is asked of it.
+    Connection(bool, Asked),
     Store,
     // Whether it is edition 2.
     Edition(bool),
@@ -64,68 +63,10 @@ pub enum Order {
     Bad(Fault, Command),
 }
 
-// A field of a line: its number, or why it is not read.
-pub enum Field {
-    Value(u64),
-    Bad(Fault),
-}
-
 // The fields of a unit before its bytes.
 pub enum UnitField {
     Value(u32, bool),
     Bad(Fault),
-}
-
-// ---- fields
-
-// Word k as a number of so many hex digits, at most 16.
-fn hex_field(line: &[u8], k: usize, digits: usize) -> Field
-    requires { ⌜ digits ≤ 16 ⌝ }
-    ensures { λ r. ⌜ Reads (hexField (wordOf (now (line .entry)) k) digits) (2 ^ (4 * digits)) r ⌝ }
-{
-    let w = word(line, k);
-    if !are_digits(w, 16) {
-        return Field::Bad(Fault::NotHex);
-    }
-    if w.len() != digits {
-        return Field::Bad(Fault::OtherLength);
-    }
-    Field::Value(number(w, 16))
-}
-
-// Word k as a decimal number in a range.
-fn decimal_field(line: &[u8], k: usize, least: u64, most: u64) -> Field
-    ensures { λ r. ⌜ Reads (decimalField (wordOf (now (line .entry)) k) least most) (most + 1) r ⌝ }
-{
-    let w = word(line, k);
-    if !are_digits(w, 10) {
-        return Field::Bad(Fault::NotDecimal);
-    }
-    if w.len() > 16 {
-        return Field::Bad(Fault::OutOfRange);
-    }
-    let n = number(w, 10);
-    if n < least {
-        return Field::Bad(Fault::OutOfRange);
-    }
-    if most < n {
-        return Field::Bad(Fault::OutOfRange);
-    }
-    Field::Value(n)
-}
-
-// Word k as bytes in hex: how many.
-fn bytes_field(line: &[u8], k: usize) -> Field
-    ensures { λ r. ⌜ r ≡ bytesField (wordOf (now (line .entry)) k) ⌝ }
-{
-    let w = word(line, k);
-    if !are_digits(w, 16) {
-        return Field::Bad(Fault::NotHex);
-    }
-    if w.len() % 2 != 0 {
-        return Field::Bad(Fault::OddDigits);
-    }
-    Field::Value((w.len() / 2) as u64)
 }
 
 // ---- lines
@@ -232,6 +173,19 @@ fn check(line: &[u8]) -> Order
     }
 }
 
+fn connection(verb: Verb, line: &[u8]) -> Order
+    ensures { λ r. ⌜ r ≡ connectionOrder verb (now (line .entry)) ⌝ }
+{
+    let name = match name_field(line) {
+        Field::Value(v) => v,
+        Field::Bad(f) => return Order::Bad(f, Command::Connection(verb)),
+    };
+    match fields_of(verb, line) {
+        Told::Is(asked) => Order::Connection(name == 1, asked),
+        Told::Bad(f) => Order::Bad(f, Command::Connection(verb)),
+    }
+}
+
 // ---- commands
 
 // The command where the word is its text, else what the others say.
@@ -256,12 +210,42 @@ fn bench_command_of(w: &[u8]) -> Named
     or_else(w, b"store", Command::Store, edition)
 }
 
+// The command that a word names: one for the bench, or an event that the transport or the timer brings to a connection.
+fn transport_command_of(w: &[u8]) -> Named
+    ensures { λ r. ⌜ r ≡ namedIn transportCommands (now (w .entry)) ⌝ }
+{
+    let bench = bench_command_of(w);
+    let late = or_else(w, b"late", Command::Connection(Verb::Late), bench);
+    let end = or_else(w, b"end", Command::Connection(Verb::End), late);
+    let lost = or_else(w, b"lost", Command::Connection(Verb::Lost), end);
+    let bring = or_else(w, b"bring", Command::Connection(Verb::Bring), lost);
+    let confirm = or_else(w, b"confirm", Command::Connection(Verb::Confirm), bring);
+    or_else(w, b"indicate", Command::Connection(Verb::Indicate), confirm)
+}
+
+// The same, or one that a user brings, or the connection itself.
+fn connection_command_of(w: &[u8]) -> Named
+    ensures { λ r. ⌜ r ≡ namedIn connectionCommands (now (w .entry)) ⌝ }
+{
+    let transport = transport_command_of(w);
+    let release = or_else(w, b"release", Command::Connection(Verb::Release), transport);
+    let say = or_else(w, b"say", Command::Connection(Verb::Say), release);
+    let respond = or_else(w, b"respond", Command::Connection(Verb::Respond), say);
+    let call = or_else(w, b"call", Command::Connection(Verb::Call), respond);
+    or_else(
+        w,
+        b"connection",
+        Command::Connection(Verb::Connection),
+        call,
+    )
+}
+
 // The command that a word names.
 fn command_of(w: &[u8]) -> Named
     ensures { λ r. ⌜ r ≡ commandOf (now (w .entry)) ⌝ }
 {
-    let bench = bench_command_of(w);
-    let check = or_else(w, b"check", Command::Check, bench);
+    let connection = connection_command_of(w);
+    let check = or_else(w, b"check", Command::Check, connection);
     let build = or_else(w, b"build", Command::Build, check);
     let keys = or_else(w, b"keys", Command::Keys, build);
     let search = or_else(w, b"search", Command::Search, keys);
@@ -280,6 +264,7 @@ fn field_count(command: Command) -> usize
         Command::Keys => 3,
         Command::Build => 3,
         Command::Check => 3,
+        Command::Connection(verb) => verb_fields(verb),
         Command::Store => 1,
         Command::Edition => 1,
         Command::Convert => 0,
@@ -307,6 +292,7 @@ fn read_fields(command: Command, line: &[u8]) -> Order
         Command::Keys => keys(line),
         Command::Build => build(line),
         Command::Check => check(line),
+        Command::Connection(verb) => connection(verb, line),
         Command::Store => with_bytes(line, Command::Store, Order::Store),
         Command::Edition => edition(line),
         Command::Convert => Order::Convert,

@@ -5,7 +5,8 @@ use mathlib.Core.List.{List}
 use Prim.Native.Nat.{ℕ}
 use lib.ListN.{take}
 use Rattle.session.specs.Rules.{receive as outcome}
-use Rattle.console.specs.Bench.{output, storeOf}
+use Rattle.console.specs.Lent.{output}
+use Rattle.console.specs.Bench.{storeOf}
 use Rattle.console.proofs.BenchLaws.{bytes-read, front-length, front-held}
 use borrow.Author.Needs.{needs}
 use Rattle.console.proofs.sessions.receive.Statement.{statement}

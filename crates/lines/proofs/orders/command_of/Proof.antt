@@ -5,8 +5,8 @@ use borrow.Author.Needs.{needs}
 use Rattle.lines.proofs.orders.command_of.Statement.{statement}
 use Rattle.lines.proofs.orders.command_of.Tie as tie
 
-bench-command-of-requires : tie.Need-bench-command-of-requires
-bench-command-of-requires c κs = search needs
+connection-command-of-requires : tie.Need-connection-command-of-requires
+connection-command-of-requires c κs = search needs
 
 slice-aggregate-or-else : tie.Need-slice-aggregate-or-else
 slice-aggregate-or-else c = search needs
@@ -52,14 +52,14 @@ returns c =
     let o3 = o4 .before .before in
     let o2 = o3 .before .before in
     let o1 = o2 .before .before in
-    let bench = o1 .before .before in
-    simp (c .or-else6 .ensures, o5 .or-else5 .ensures, o4 .or-else4 .ensures, o3 .or-else3 .ensures, o2 .or-else2 .ensures, o1 .or-else .ensures, bench .bench-command-of .ensures)
+    let rest = o1 .before .before in
+    simp (c .or-else6 .ensures, o5 .or-else5 .ensures, o4 .or-else4 .ensures, o3 .or-else3 .ensures, o2 .or-else2 .ensures, o1 .or-else .ensures, rest .connection-command-of .ensures)
 
 pub command-of-spec : {M : Type 1} → statement M
 command-of-spec =
     tie.close
     (tie.spec
-    bench-command-of-requires
+    connection-command-of-requires
     slice-aggregate-or-else
     or-else-requires
     slice-aggregate-or-else-2

@@ -42,6 +42,12 @@ enum-told-6 c = search needs
 check-requires : tie.Need-check-requires
 check-requires c κs = search needs
 
+enum-known-command : tie.Need-enum-known-command
+enum-known-command c = search needs
+
+connection-requires : tie.Need-connection-requires
+connection-requires c κs = search needs
+
 enum-told-7 : tie.Need-enum-told-7
 enum-told-7 c = search needs
 
@@ -92,27 +98,31 @@ returns-6 c = simp (c .before .enum-told6 .given .1, sym (c .check .ensures))
 
 returns-7 : tie.Need-returns-7
 unfolding fieldsOrder
-returns-7 c = simp (c .before .enum-told7 .given .1, sym (c .with-bytes2 .ensures))
+returns-7 c = simp (c .before .before .command .given .1, sym (c .connection .ensures))
 
 returns-8 : tie.Need-returns-8
 unfolding fieldsOrder
-returns-8 c = simp (c .before .enum-told8 .given .1, sym (c .edition .ensures))
+returns-8 c = simp (c .before .enum-told7 .given .1, sym (c .with-bytes2 .ensures))
 
 returns-9 : tie.Need-returns-9
 unfolding fieldsOrder
-returns-9 c = simp (c .enum-told9 .given .1)
+returns-9 c = simp (c .before .enum-told8 .given .1, sym (c .edition .ensures))
 
 returns-10 : tie.Need-returns-10
 unfolding fieldsOrder
-returns-10 c = simp (c .enum-told10 .given .1)
+returns-10 c = simp (c .enum-told9 .given .1)
 
 returns-11 : tie.Need-returns-11
 unfolding fieldsOrder
-returns-11 c = simp (c .enum-told11 .given .1)
+returns-11 c = simp (c .enum-told10 .given .1)
 
 returns-12 : tie.Need-returns-12
 unfolding fieldsOrder
-returns-12 c = simp (c .enum-told12 .given .1)
+returns-12 c = simp (c .enum-told11 .given .1)
+
+returns-13 : tie.Need-returns-13
+unfolding fieldsOrder
+returns-13 c = simp (c .enum-told12 .given .1)
 
 pub read-fields-spec : {M : Type 1} → statement M
 read-fields-spec =
@@ -130,6 +140,8 @@ read-fields-spec =
     build-requires
     enum-told-6
     check-requires
+    enum-known-command
+    connection-requires
     enum-told-7
     with-bytes-requires-2
     enum-told-8
@@ -149,4 +161,5 @@ read-fields-spec =
     returns-9
     returns-10
     returns-11
-    returns-12)
+    returns-12
+    returns-13)

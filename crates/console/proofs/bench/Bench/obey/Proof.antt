@@ -10,20 +10,22 @@ use Rattle.lines.specs.Orders.{orderOf}
 use Rattle.lines.specs.declared.orders.Order.{Order}
 use Rattle.lines.specs.declared.orders.Order.the-variants as order
 use Rattle.console.specs.declared.bench.Bench.{Bench}
+use Rattle.console.specs.declared.connections.Sides.{Sides}
+use Rattle.console.specs.Connections.{sidesBy}
 use Rattle.console.specs.Units.{soundKmac, keyedBy, keysBy}
 use Rattle.console.specs.Bench.{storeOf, heldAt, withStore, obeyed, Leaves}
 use borrow.Author.Needs.{needs}
 use Rattle.console.proofs.bench.Bench.obey.Statement.{statement}
 use Rattle.console.proofs.bench.Bench.obey.Tie as tie
 
--- a bench with another session, edition, and whether session keys are held
-abbrev changed : Bench → Session → Bool → Bool → Bench
-changed b e large held = record { session = e; large = large; held = held; line = b .line; filled = b .filled; more = b .more }
+-- a bench with another session, edition, whether session keys are held, and connections
+abbrev changed : Bench → Session → Bool → Bool → Sides → Bench
+changed b e large held sides = record { session = e; large = large; held = held; sides = sides; line = b .line; filled = b .filled; more = b .more }
 
 -- another edition and its store, and all else as it was
-with-store : (b : Bench) (s k t v : List ℕ) {l m : Bool} → l ≡ m → storeOf l t ≡ v → Leaves (withStore m v (heldAt b s k)) b (changed b (b .session) l (b .held)) t k
+with-store : (b : Bench) (s k t v : List ℕ) {l m : Bool} → l ≡ m → storeOf l t ≡ v → Leaves (withStore m v (heldAt b s k)) b (changed b (b .session) l (b .held) (b .sides)) t k
 with-store b s k t v e h =
-    record { bench-is = ap (λ (x : Bool). changed b (b .session) x (b .held)) e; store-is = ap (λ (x : Bool). storeOf x t) (sym e) ∙ h; keys-are = refl }
+    record { bench-is = ap (λ (x : Bool). changed b (b .session) x (b .held) (b .sides)) e; store-is = ap (λ (x : Bool). storeOf x t) (sym e) ∙ h; keys-are = refl }
 
 module _ (k : tie.After-read) where
   -- what is left where the line asks the order o
@@ -95,6 +97,15 @@ enum-known-destination-2 c = search needs
 check-requires : tie.Need-check-requires
 check-requires c κs = search needs
 
+enum-known-second : tie.Need-enum-known-second
+enum-known-second c = search needs
+
+store-of-requires-3 : tie.Need-store-of-requires-3
+store-of-requires-3 c κs = search needs
+
+obey-requires : tie.Need-obey-requires
+obey-requires c κs = search needs
+
 enum-told-4 : tie.Need-enum-told-4
 enum-told-4 c = search needs
 
@@ -116,8 +127,8 @@ convert-requires c κs = search needs
 enum-told-6 : tie.Need-enum-told-6
 enum-told-6 c = search needs
 
-store-of-requires-3 : tie.Need-store-of-requires-3
-store-of-requires-3 c κs = search needs
+store-of-requires-4 : tie.Need-store-of-requires-4
+store-of-requires-4 c κs = search needs
 
 held-requires : tie.Need-held-requires
 held-requires c κs = search needs
@@ -161,8 +172,9 @@ returns-3 : tie.Need-returns-3
 returns-3 c =
     let read = c .before .before .before .before in
     let told = c .before .before .own .given in
+    let b = read .before .before .before .before .args .self in
     left read (order.Begin (told .0 .0) (told .0 .1 .0) (told .0 .1 .1 .0)) _ _ _ (told .1)
-    (record { bench-is = ap (λ (e : Session). changed (read .before .before .before .before .args .self) e (read .before .before .before .before .args .self .large) (read .before .before .before .before .args .self .held)) (c .begin .ensures); store-is = refl; keys-are = refl })
+    (record { bench-is = ap (λ (e : Session). changed b e (b .large) (b .held) (b .sides)) (c .begin .ensures); store-is = refl; keys-are = refl })
 
 same-length : tie.Need-same-length
 same-length c = search needs
@@ -173,7 +185,7 @@ returns-4 c =
     let read = receive .before .before .before .before in
     let b = read .before .before .before .before .args .self in
     left read order.Message _ _ _ (receive .before .before .enum-told3 .given .1)
-    (record { bench-is = ap (λ (e : Session). changed b e (b .large) (b .held)) (receive .receive .ensures .0); store-is = receive .receive .ensures .1; keys-are = refl })
+    (record { bench-is = ap (λ (e : Session). changed b e (b .large) (b .held) (b .sides)) (receive .receive .ensures .0); store-is = receive .receive .ensures .1; keys-are = refl })
 
 same-length-2 : tie.Need-same-length-2
 same-length-2 c = search needs
@@ -201,7 +213,7 @@ returns-6 c =
     left read (order.Keys (told .0 .0) (told .0 .1 .0) (told .0 .1 .1 .0)) _ _ _ (told .1)
     (record {
       bench-is =
-          ap (λ (x : Bool). changed b (b .session) (b .large) x)
+          ap (λ (x : Bool). changed b (b .session) (b .large) x (b .sides))
           (hold .hold .ensures .0 ∙ ap (λ (x : List ℕ). keyedBy (derived (soundKmac x (told .0 .0))) (b .held)) s);
       store-is = refl;
       keys-are = hold .hold .ensures .1 ∙ ap (λ (x : List ℕ). keysBy (soundKmac x (told .0 .0)) (told .0 .1 .0) (told .0 .1 .1 .0) (a .keys .now)) s;
@@ -228,57 +240,76 @@ same-length-7 c = search needs
 
 returns-9 : tie.Need-returns-9
 returns-9 c =
-    let take = c .before .before in
-    let read = take .before .before .before .before in
+    let of = c .before in
+    let told = of .before .before .before .second .given in
+    let read = of .before .before .before .before .before in
     let a = read .before .before .before .before .args in
-    left read order.Store _ _ _ (take .before .before .enum-told4 .given .1)
-    (with-store (a .self) (a .store .now) (a .keys .now) _ _ (take .take .ensures .0) (take .take .ensures .1))
+    let b = a .self in
+    left read (order.Connection (told .0 .0) (told .0 .1 .0)) _ _ _ (told .1)
+    (record {
+      bench-is =
+          ap (λ (x : Sides). changed b (b .session) (b .large) (b .held) x)
+          (c .obey .ensures ∙ ap (λ (x : List ℕ). sidesBy (told .0 .0) (told .0 .1 .0) (a .text .now) x (b .sides)) (of .store-of3 .ensures));
+      store-is = refl;
+      keys-are = refl;
+    })
 
 same-length-8 : tie.Need-same-length-8
 same-length-8 c = search needs
 
 returns-10 : tie.Need-returns-10
 returns-10 c =
-    let choose = c .before .before in
-    let told = choose .before .before .before .large .given in
-    left (choose .before .before .before .before .before) (order.Edition (told .0 .0)) _ _ _ (told .1) (record { bench-is = refl; store-is = choose .choose .ensures; keys-are = refl })
+    let take = c .before .before in
+    let read = take .before .before .before .before in
+    let a = read .before .before .before .before .args in
+    left read order.Store _ _ _ (take .before .before .enum-told4 .given .1)
+    (with-store (a .self) (a .store .now) (a .keys .now) _ _ (take .take .ensures .0) (take .take .ensures .1))
 
 same-length-9 : tie.Need-same-length-9
 same-length-9 c = search needs
 
 returns-11 : tie.Need-returns-11
 returns-11 c =
-    let convert = c .before .before in
-    let read = convert .before .before .before .before in
-    let a = read .before .before .before .before .args in
-    left read order.Convert _ _ _ (convert .before .before .enum-told5 .given .1)
-    (with-store (a .self) (a .store .now) (a .keys .now) _ _ (convert .convert .ensures .0) (convert .convert .ensures .1))
+    let choose = c .before .before in
+    let told = choose .before .before .before .large .given in
+    left (choose .before .before .before .before .before) (order.Edition (told .0 .0)) _ _ _ (told .1) (record { bench-is = refl; store-is = choose .choose .ensures; keys-are = refl })
 
 same-length-10 : tie.Need-same-length-10
 same-length-10 c = search needs
 
 returns-12 : tie.Need-returns-12
 returns-12 c =
-    left (c .before .before .before .before .before .before) order.Show _ _ _ (c .before .before .before .before .enum-told6 .given .1) (kept (c .before .before .before .before .before .before))
+    let convert = c .before .before in
+    let read = convert .before .before .before .before in
+    let a = read .before .before .before .before .args in
+    left read order.Convert _ _ _ (convert .before .before .enum-told5 .given .1)
+    (with-store (a .self) (a .store .now) (a .keys .now) _ _ (convert .convert .ensures .0) (convert .convert .ensures .1))
 
 same-length-11 : tie.Need-same-length-11
 same-length-11 c = search needs
 
 returns-13 : tie.Need-returns-13
 returns-13 c =
-    let empty = c .before .before in
-    left (empty .before .before .before .before) order.Empty _ _ _ (empty .before .before .enum-told7 .given .1) (record { bench-is = refl; store-is = empty .empty .ensures; keys-are = refl })
+    left (c .before .before .before .before .before .before) order.Show _ _ _ (c .before .before .before .before .enum-told6 .given .1) (kept (c .before .before .before .before .before .before))
+
+same-length-12 : tie.Need-same-length-12
+same-length-12 c = search needs
 
 returns-14 : tie.Need-returns-14
 returns-14 c =
-    left (c .before .before .before) order.Help _ _ _ (c .before .enum-told8 .given .1) (kept (c .before .before .before))
+    let empty = c .before .before in
+    left (empty .before .before .before .before) order.Empty _ _ _ (empty .before .before .enum-told7 .given .1) (record { bench-is = refl; store-is = empty .empty .ensures; keys-are = refl })
 
 returns-15 : tie.Need-returns-15
 returns-15 c =
-    left (c .before .before .before) order.Unknown _ _ _ (c .before .enum-told9 .given .1) (kept (c .before .before .before))
+    left (c .before .before .before) order.Help _ _ _ (c .before .enum-told8 .given .1) (kept (c .before .before .before))
 
 returns-16 : tie.Need-returns-16
 returns-16 c =
+    left (c .before .before .before) order.Unknown _ _ _ (c .before .enum-told9 .given .1) (kept (c .before .before .before))
+
+returns-17 : tie.Need-returns-17
+returns-17 c =
     let told = c .before .before .fault .given in
     left (c .before .before .before .before) (order.Bad (told .0 .0) (told .0 .1 .0)) _ _ _ (told .1) (kept (c .before .before .before .before))
 
@@ -304,6 +335,9 @@ obey-spec =
     build-requires
     enum-known-destination-2
     check-requires
+    enum-known-second
+    store-of-requires-3
+    obey-requires
     enum-told-4
     take-requires
     enum-known-large
@@ -311,7 +345,7 @@ obey-spec =
     enum-told-5
     convert-requires
     enum-told-6
-    store-of-requires-3
+    store-of-requires-4
     held-requires
     shown-requires
     enum-told-7
@@ -346,6 +380,8 @@ obey-spec =
     returns-12
     same-length-11
     returns-13
+    same-length-12
     returns-14
     returns-15
-    returns-16)
+    returns-16
+    returns-17)

@@ -1,11 +1,11 @@
--- `lines::orders::decimal_field` meets its contract.
+-- `lines::fields::decimal_field` meets its contract.
 -- Assumes nothing.
 use Rattle.octets.proofs.BoolLaws.{test-holds, test-fails}
-use Rattle.lines.proofs.OrderLaws.{decimal-not, decimal-long, decimal-low, decimal-high, decimal-value}
+use Rattle.lines.proofs.FieldLaws.{decimal-not, decimal-long, decimal-low, decimal-high, decimal-value}
 use borrow.Author.Needs.{needs}
 use native.Mathlib.Omega.{arith}
-use Rattle.lines.proofs.orders.decimal_field.Statement.{statement}
-use Rattle.lines.proofs.orders.decimal_field.Tie as tie
+use Rattle.lines.proofs.fields.decimal_field.Statement.{statement}
+use Rattle.lines.proofs.fields.decimal_field.Tie as tie
 
 word-requires : tie.Need-word-requires
 word-requires c κs = search needs

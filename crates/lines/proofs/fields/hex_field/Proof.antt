@@ -1,11 +1,11 @@
--- `lines::orders::hex_field` meets its contract.
+-- `lines::fields::hex_field` meets its contract.
 -- Assumes nothing.
 use Rattle.octets.proofs.BoolLaws.{test-holds, test-fails}
-use Rattle.lines.proofs.OrderLaws.{hex-not, hex-other, hex-value}
+use Rattle.lines.proofs.FieldLaws.{hex-not, hex-other, hex-value}
 use borrow.Author.Needs.{needs}
 use native.Mathlib.Omega.{arith}
-use Rattle.lines.proofs.orders.hex_field.Statement.{statement}
-use Rattle.lines.proofs.orders.hex_field.Tie as tie
+use Rattle.lines.proofs.fields.hex_field.Statement.{statement}
+use Rattle.lines.proofs.fields.hex_field.Tie as tie
 
 word-requires : tie.Need-word-requires
 word-requires c κs = search needs

@@ -1,10 +1,10 @@
--- `lines::orders::bytes_field` meets its contract.
+-- `lines::fields::bytes_field` meets its contract.
 -- Assumes nothing.
 use Rattle.octets.proofs.BoolLaws.{test-holds, test-fails}
-use Rattle.lines.proofs.OrderLaws.{bytes-not, bytes-odd, bytes-value}
+use Rattle.lines.proofs.FieldLaws.{bytes-not, bytes-odd, bytes-value}
 use borrow.Author.Needs.{needs}
-use Rattle.lines.proofs.orders.bytes_field.Statement.{statement}
-use Rattle.lines.proofs.orders.bytes_field.Tie as tie
+use Rattle.lines.proofs.fields.bytes_field.Statement.{statement}
+use Rattle.lines.proofs.fields.bytes_field.Tie as tie
 
 word-requires : tie.Need-word-requires
 word-requires c κs = search needs
