@@ -28,6 +28,8 @@ int32_t reference_check(const uint8_t *unit, size_t unit_len, const uint8_t *key
                         uint8_t direction);
 int32_t reference_to_edition2(const uint8_t *from, size_t from_len, uint8_t *to, size_t to_len);
 int32_t reference_to_edition1(const uint8_t *from, size_t from_len, uint8_t *to, size_t to_len);
+int32_t reference_set_up(const uint8_t *store, size_t store_len, uint32_t caller, uint32_t called, uint32_t t,
+                         const uint8_t *ra, const uint8_t *rb, uint8_t *made);
 
 /* ---- inputs, and what a contender makes */
 
@@ -37,6 +39,7 @@ struct inputs {
     struct worst random, issuers, slot; /* the full store, its keys under other names */
     struct worst falling, rising;       /* the full store, every record for the searched peer */
     struct worst unsound;               /* by its very last byte, the last that is looked at */
+    struct worst one, full;             /* for a set-up: one key held, and as many as fit */
 };
 
 static struct inputs inputs_1, inputs_2;
@@ -147,6 +150,50 @@ static void share_peer(struct worst *w, const struct worst *full, int rising)
         abort();
 }
 
+/* ---- stores for a set-up. Both sides search in one, whose last record lists both. */
+
+enum { CALLER = 0x02e6a54b, CALLED = 0x01123456, CENTRE = 0x05112233, REPLY_LEN = 23 };
+
+static void must(int right)
+{
+    if (!right)
+        abort();
+}
+
+static int32_t receive(struct worst *w)
+{
+    uint8_t out[KMAC_OUT_LEN];
+    return kmac_receive(w->session, w->message.bytes, w->message.length, w->store, w->edition->store_len, out, sizeof out);
+}
+
+static void hold_one(struct worst *w, const struct edition *edition)
+{
+    struct centre centre = {CENTRE, CALLER, 1, 1};
+    const uint32_t peers[] = {CALLER, CALLED};
+    struct key held = {.issuer = ISSUER, .serial = 1, .peers = peers, .peer_count = 2,
+                       .start = worst_moment(), .end = worst_moment()};
+    uint8_t out[KMAC_OUT_LEN];
+    worst_kmac(1, held.kmac);
+    w->edition = edition;
+    must(kmac_empty_store(w->store, edition->store_len) == 0);
+    must(kmac_begin(CALLER, CENTRE, 1, w->session, out, sizeof out) == REPLY_LEN);
+    centre_init(&centre, &w->message);
+    must(receive(w) == 0);
+    centre_start(&centre, &w->message, CMD_ADD_KEYS);
+    centre_add(&w->message, CALLER, &held);
+    must(receive(w) == REPLY_LEN + 1);
+}
+
+/* The last two peers of the full store end the store. */
+static void hold_all(struct worst *w, const struct worst *full)
+{
+    uint8_t *last;
+    *w = *full;
+    last = w->store + w->edition->store_len - 4;
+    put32(last - 4, CALLER);
+    put32(last, CALLED);
+}
+
 static void prepare_stores(const struct edition *edition, struct inputs *inputs)
 {
     const struct worst *full = &inputs->worst[WORST_DELETES];
@@ -158,6 +205,8 @@ static void prepare_stores(const struct edition *edition, struct inputs *inputs)
     share_peer(&inputs->rising, full, 1);
     inputs->unsound = inputs->worst[WORST_ONE_ADD];
     inputs->unsound.store[edition->store_len - 1] = 1;
+    hold_one(&inputs->one, edition);
+    hold_all(&inputs->full, full);
 }
 
 static void prepare(void)
@@ -253,6 +302,59 @@ static void back_reference(void)
     made.answer = reference_to_edition1(now->store, KMAC_STORE_2_LEN, made.store, KMAC_STORE_LEN);
 }
 
+/* ---- contenders: connection set-up, each time from idle. data has the random numbers. */
+
+enum { KEY_AT = 28 }; /* in a connection */
+
+static const uint8_t *const ra = data, *const rb = data + KMAC_RANDOM_LEN;
+
+static void set_up_kmac(void)
+{
+    static uint8_t units[AR_AT + KMAC_OUT_LEN], none[KMAC_OUT_LEN];
+    uint8_t caller[KMAC_CONNECTION_LEN] = {0}, called[KMAC_CONNECTION_LEN] = {0}, events[KMAC_EVENTS_LEN];
+    const uint8_t *store = now->store;
+    size_t store_len = now->edition->store_len, length;
+    uint32_t t = worst_moment();
+    uint8_t *au2 = units + AU2_AT, *au3 = units + AU3_AT, *ar = units + AR_AT;
+    length = (size_t)kmac_connect_request(caller, 1, CALLER, CALLED, t, rb, store, store_len, events, units, KMAC_OUT_LEN);
+    length = (size_t)kmac_connect_indication(called, 1, CALLED, t, ra, units, length, store, store_len, events, au2,
+                                             KMAC_OUT_LEN);
+    length = (size_t)kmac_connect_confirmation(caller, au2, length, events, au3, KMAC_OUT_LEN);
+    kmac_unit_indication(called, KMAC_KIND_AU3, au3, length, events, none, KMAC_OUT_LEN);
+    length = (size_t)kmac_connect_response(called, events, ar, KMAC_OUT_LEN);
+    kmac_unit_indication(caller, KMAC_KIND_AR, ar, length, events, none, KMAC_OUT_LEN);
+    memcpy(made.out, units, CALLER_KEYS_AT);
+    memcpy(made.out + CALLER_KEYS_AT, caller + KEY_AT, KMAC_KEY_LEN);
+    memcpy(made.out + CALLED_KEYS_AT, called + KEY_AT, KMAC_KEY_LEN);
+    made.answer = caller[0] == KMAC_DATA && called[0] == KMAC_DATA ? 0 : -1;
+}
+
+/* With the KMAC of the last record, which no search has to find. */
+static void set_up_over(const struct cipher *cipher)
+{
+    const uint8_t *kmac = now->store + KMAC_KEY_AT(number_at(now->store + 2, 2));
+    made.answer = others_set_up(cipher, kmac, CALLER, CALLED, ra, rb, made.out);
+}
+static void set_up_openssl(void) { set_up_over(&over_openssl); }
+static void set_up_nettle(void) { set_up_over(&over_nettle); }
+
+static void set_up_reference(void)
+{
+    made.answer = reference_set_up(now->store, now->edition->store_len, CALLER, CALLED, worst_moment(), ra, rb, made.out);
+}
+
+/* The searches of a set-up: each side finds the record, and finds it again to read its key. */
+static void searches_kmac(void)
+{
+    for (int i = 0; i < 4; i++)
+        made.answer = kmac_find(now->store, now->edition->store_len, i < 2 ? CALLED : CALLER, worst_moment(), &made.end);
+}
+static void searches_reference(void)
+{
+    for (int i = 0; i < 4; i++)
+        made.answer = reference_find(now->store, now->edition->store_len, i < 2 ? CALLED : CALLER, worst_moment(), &made.end);
+}
+
 static void self_test(void) { made.answer = kmac_self_test(); }
 
 /* ---- rows */
@@ -313,6 +415,16 @@ static const struct row rows[] = {
     {"to edition 1, 500 keys: no room", {back_kmac, NULL, NULL, back_reference}, &inputs_2.worst[WORST_DELETES]},
     {"find in that store of edition 2, no key fits", {find_kmac, NULL, NULL, find_reference}, &larger},
     {"copy of the store, edition 2", {copy_store, NULL, NULL, NULL}, &inputs_2.worst[WORST_DELETES]},
+    {"set-up, both sides, 1 key held", {set_up_kmac, set_up_openssl, set_up_nettle, set_up_reference}, &inputs_1.one},
+    {"set-up, both sides, 64 keys held", {set_up_kmac, set_up_openssl, set_up_nettle, set_up_reference}, &inputs_1.full},
+    {"set-up, both sides, 1 key held, edition 2",
+     {set_up_kmac, set_up_openssl, set_up_nettle, set_up_reference},
+     &inputs_2.one},
+    {"set-up, both sides, 500 keys held", {set_up_kmac, set_up_openssl, set_up_nettle, set_up_reference}, &inputs_2.full},
+    {"its searches alone, 1 key held", {searches_kmac, NULL, NULL, searches_reference}, &inputs_1.one},
+    {"its searches alone, 64 keys held", {searches_kmac, NULL, NULL, searches_reference}, &inputs_1.full},
+    {"its searches alone, 1 key held, edition 2", {searches_kmac, NULL, NULL, searches_reference}, &inputs_2.one},
+    {"its searches alone, 500 keys held", {searches_kmac, NULL, NULL, searches_reference}, &inputs_2.full},
 };
 
 static const char *name_of(const struct row *row)
@@ -421,10 +533,9 @@ static void print_cells(const struct row *row, const double median[CONTENDERS])
             printf(" |");
 }
 
-int main(void)
+static void print_table(void)
 {
     double busiest = 0;
-    prepare();
     printf("| ns | libkmac | OpenSSL | nettle | second program | libkmac / OpenSSL | / nettle | / second program | spread |\n");
     printf("|---|---|---|---|---|---|---|---|---|\n");
     for (size_t i = 0; i < sizeof rows / sizeof rows[0]; i++) {
@@ -441,5 +552,26 @@ int main(void)
     }
     if (busiest > QUIET)
         puts("The machine was busy. Run it again.");
+}
+
+/* Every contender of the row with this name once, untimed. */
+static int run_once(const char *name)
+{
+    for (size_t i = 0; i < sizeof rows / sizeof rows[0]; i++) {
+        if (strcmp(name_of(&rows[i]), name) != 0)
+            continue;
+        now = rows[i].with;
+        compare(&rows[i]);
+        return 0;
+    }
+    return 1;
+}
+
+int main(int argc, char **argv)
+{
+    prepare();
+    if (argc == 2)
+        return run_once(argv[1]);
+    print_table();
     return 0;
 }

@@ -142,3 +142,78 @@ void others_session_keys(const struct cipher *cipher, const uint8_t *kmac, const
     for (int i = 0; i < KMAC_KEY_LEN; i++)
         keys[i] ^= (uint8_t)!__builtin_parity(keys[i]);
 }
+
+/* ---- connection set-up over either */
+
+enum { AU1 = 1, AU2 = 2, AU3 = 3, AR = 9, SAF = 1, NAMED_LEN = 13, RANDOM_AT = 5 };
+
+static void put_id(uint8_t *to, uint32_t identity)
+{
+    to[0] = (uint8_t)(identity >> 16);
+    to[1] = (uint8_t)(identity >> 8);
+    to[2] = (uint8_t)identity;
+}
+
+/* An AU1, or an AU2 before its MAC. */
+static void put_named(uint8_t *unit, unsigned mti, unsigned direction, uint32_t own, const uint8_t *random)
+{
+    unit[0] = (uint8_t)(own >> 24 << 5 | mti << 1 | direction);
+    put_id(unit + 1, own);
+    unit[4] = SAF;
+    memcpy(unit + RANDOM_AT, random, KMAC_RANDOM_LEN);
+}
+
+/* Over the unit before its MAC, RB and the caller (6.2.3.2.1.9). */
+static void au2_mac(const struct cipher *cipher, const uint8_t *key, const uint8_t *unit, const uint8_t *rb,
+                    const uint8_t *caller, uint8_t *mac)
+{
+    uint8_t message[NAMED_LEN + KMAC_RANDOM_LEN + KMAC_DESTINATION_LEN];
+    memcpy(message, unit, NAMED_LEN);
+    memcpy(message + NAMED_LEN, rb, KMAC_RANDOM_LEN);
+    memcpy(message + NAMED_LEN + KMAC_RANDOM_LEN, caller, KMAC_DESTINATION_LEN);
+    mac_of(cipher, key, caller, message, sizeof message, mac);
+}
+
+/* Over the first byte, RB and RA (6.2.3.2.1.10). */
+static void au3_mac(const struct cipher *cipher, const uint8_t *key, const uint8_t *unit, const uint8_t *ra,
+                    const uint8_t *rb, const uint8_t *called, uint8_t *mac)
+{
+    uint8_t message[1 + 2 * KMAC_RANDOM_LEN];
+    message[0] = unit[0];
+    memcpy(message + 1, rb, KMAC_RANDOM_LEN);
+    memcpy(message + 1 + KMAC_RANDOM_LEN, ra, KMAC_RANDOM_LEN);
+    mac_of(cipher, key, called, message, sizeof message, mac);
+}
+
+/* Each side uses its own random number and session keys, and the other's random number as the unit brings it. */
+int32_t others_set_up(const struct cipher *cipher, const uint8_t *kmac, uint32_t caller, uint32_t called, const uint8_t *ra,
+                      const uint8_t *rb, uint8_t made[SET_UP_LEN])
+{
+    uint8_t *au1 = made, *au2 = made + AU2_AT, *au3 = made + AU3_AT, *ar = made + AR_AT;
+    uint8_t *caller_keys = made + CALLER_KEYS_AT, *called_keys = made + CALLED_KEYS_AT;
+    uint8_t caller_id[KMAC_DESTINATION_LEN], called_id[KMAC_DESTINATION_LEN], mac[KMAC_MAC_LEN];
+    put_id(caller_id, caller);
+    put_id(called_id, called);
+
+    put_named(au1, AU1, 0, caller, rb);
+
+    others_session_keys(cipher, kmac, ra, au1 + RANDOM_AT, called_keys);
+    put_named(au2, AU2, 1, called, ra);
+    au2_mac(cipher, called_keys, au2, au1 + RANDOM_AT, caller_id, au2 + NAMED_LEN);
+
+    others_session_keys(cipher, kmac, au2 + RANDOM_AT, rb, caller_keys);
+    au2_mac(cipher, caller_keys, au2, rb, caller_id, mac);
+    if (memcmp(mac, au2 + NAMED_LEN, KMAC_MAC_LEN) != 0)
+        return KMAC_H8_MAC_DIFFERS;
+    au3[0] = AU3 << 1;
+    au3_mac(cipher, caller_keys, au3, au2 + RANDOM_AT, rb, called_id, au3 + 1);
+
+    au3_mac(cipher, called_keys, au3, ra, au1 + RANDOM_AT, called_id, mac);
+    if (memcmp(mac, au3 + 1, KMAC_MAC_LEN) != 0)
+        return KMAC_H8_MAC_DIFFERS;
+    ar[0] = AR << 1 | 1;
+    mac_of(cipher, called_keys, caller_id, ar, 1, ar + 1);
+
+    mac_of(cipher, caller_keys, caller_id, ar, 1, mac);
+    return memcmp(mac, ar + 1, KMAC_MAC_LEN) != 0 ? KMAC_H8_MAC_DIFFERS : 0;
+}

@@ -1,4 +1,4 @@
-/* Data units and session keys of SUBSET-037-2 over the DES of other libraries, to compare with. */
+/* Data units, session keys and connection set-up of SUBSET-037-2 over the DES of other libraries, to compare with. */
 #ifndef OTHERS_H
 #define OTHERS_H
 
@@ -22,5 +22,12 @@ int32_t others_build(const struct cipher *cipher, const uint8_t *key, const uint
 int32_t others_check(const struct cipher *cipher, const uint8_t *unit, size_t unit_len, const uint8_t *key,
                      const uint8_t *destination, uint8_t direction);
 void others_session_keys(const struct cipher *cipher, const uint8_t *kmac, const uint8_t *ra, const uint8_t *rb, uint8_t *keys);
+
+/* What a set-up makes: the four units one behind the other, then the session keys of the caller and of the called side. */
+enum { AU2_AT = 13, AU3_AT = 34, AR_AT = 43, CALLER_KEYS_AT = 52, CALLED_KEYS_AT = 76, SET_UP_LEN = 100 };
+
+/* A set-up of both sides on a KMAC at hand: no search, no states, no events. Answers 0, or H8 where a MAC differs. */
+int32_t others_set_up(const struct cipher *cipher, const uint8_t *kmac, uint32_t caller, uint32_t called, const uint8_t *ra,
+                      const uint8_t *rb, uint8_t made[SET_UP_LEN]);
 
 #endif

@@ -2,7 +2,8 @@
 //! Answers are those of the library's C interface: -n for refusal Hn, else a length or a place.
 
 use reference::session::{self, Answer, Session, OPEN};
-use reference::{authentication, conversion, store};
+use reference::setup::{Connection, Event, Indication, Request};
+use reference::{authentication, conversion, store, OUTPUT_LENGTH};
 use std::slice;
 
 /// # Safety
@@ -175,4 +176,60 @@ pub unsafe extern "C" fn reference_to_edition2(
     to_len: usize,
 ) -> i32 {
     converted(conversion::to_edition_2, (from, from_len), (to, to_len))
+}
+
+/// A connection set up from idle: the four units one behind the other, then the session keys of the
+/// caller and of the called side.
+fn exchange(request: Request, own: [u8; 4], ra: [u8; 8]) -> Result<Vec<u8>, u8> {
+    let Request {
+        acceptable,
+        t,
+        store,
+        ..
+    } = request;
+    let (mut caller, mut called) = (Connection::NONE, Connection::NONE);
+    let mut out = [0; OUTPUT_LENGTH];
+    let mut take = |side: &mut Connection, event: Event| side.take(event, &mut out).map(|o| o.unit);
+    let au1 = take(&mut caller, Event::ConnectRequest(request))?;
+    let indication = Indication {
+        acceptable,
+        own,
+        t,
+        ra,
+        unit: &au1,
+        store,
+    };
+    let au2 = take(&mut called, Event::ConnectIndication(indication))?;
+    let au3 = take(&mut caller, Event::ConnectConfirmation(&au2))?;
+    take(&mut called, Event::Au3(&au3))?;
+    let ar = take(&mut called, Event::ConnectResponse)?;
+    take(&mut caller, Event::Ar(&ar))?;
+    Ok([&au1[..], &au2, &au3, &ar, &caller.key, &called.key].concat())
+}
+
+/// # Safety
+/// `store` points to `store_len` bytes and `made` to 100 that nobody else uses.
+#[no_mangle]
+pub unsafe extern "C" fn reference_set_up(
+    store: *const u8,
+    store_len: usize,
+    caller: u32,
+    called: u32,
+    t: u32,
+    ra: &[u8; 8],
+    rb: &[u8; 8],
+    made: *mut u8,
+) -> i32 {
+    let request = Request {
+        acceptable: true,
+        own: caller.to_be_bytes(),
+        peer: called.to_be_bytes(),
+        t,
+        rb: *rb,
+        store: lent(store, store_len),
+    };
+    code(exchange(request, called.to_be_bytes(), *ra).map(|bytes| {
+        lent_mut(made, bytes.len()).copy_from_slice(&bytes);
+        0
+    }))
 }
