@@ -32,7 +32,7 @@ keep zero (suc n) (x ∷ s) = x ∷ keep zero n s
 keep (suc m) zero (x ∷ s) = 0 ∷ keep m zero s
 keep (suc m) (suc n) (x ∷ s) = 0 ∷ keep m n s
 
-length-keep : (m n : ℕ) (s : List ℕ) → length (keep m n s) ≡ length s
+pub length-keep : (m n : ℕ) (s : List ℕ) → length (keep m n s) ≡ length s
 unfolding keep
 length-keep m n [] = refl
 length-keep zero zero (x ∷ s) = ap suc (length-keep zero zero s)
@@ -41,7 +41,7 @@ length-keep (suc m) zero (x ∷ s) = ap suc (length-keep m zero s)
 length-keep (suc m) (suc n) (x ∷ s) = ap suc (length-keep m n s)
 
 -- two parts side by side
-merge : (m n o : ℕ) (s : List ℕ) → m ≤ n → n ≤ o → Small s → xorBits (keep m n s) (keep n o s) ≡ keep m o s
+pub merge : (m n o : ℕ) (s : List ℕ) → m ≤ n → n ≤ o → Small s → xorBits (keep m n s) (keep n o s) ≡ keep m o s
 unfolding keep xorBits
 merge m n o [] h l b = refl
 merge zero zero zero (x ∷ s) h l b = ap (λ (t : List ℕ). 0 ∷ t) (merge zero zero zero s h l (λ i. b (suc i)))
@@ -246,27 +246,3 @@ boxes-step k x {r} {q} h l hr hq =
 
 pub boxes-end : (y : List ℕ) {r : ℕ} → Holds 48 r (permute e (permute p (keep 0 32 (selects 8 y)))) → Holds 48 r (permute e (permute p (selects 8 y)))
 boxes-end y h = recast h (ap (λ (a : List ℕ). permute e (permute p a)) (keep-all 32 (selects 8 y) (length-selects 8 y)))
-
--- ---- the loop over the groups of permuted choice 2
-
-pub pc2-start : (x : ℕ) → Holds 48 0 (permute pc2 (keep 0 0 (bits 56 x)))
-unfolding zeros permute pc2 bits
-pc2-start x =
-    let z : keep 0 0 (bits 56 x) ≡ zeros 56 = keep-none 0 (bits 56 x) ∙ ap zeros (length-bits 56 x) in
-    subst⁻¹ (λ (l : List ℕ). Holds 48 0 (permute pc2 l)) z (record { fits = lit< tt; same = refl })
-
-pub pc2-step : (i x : ℕ) {r : ℕ} → i < 14 → Holds 48 r (permute pc2 (keep 0 (4 * i) (bits 56 x)))
-    → Holds 48 (bitXor r (getD pc2Groups (16 * i + bitAnd (x / 2 ^ (52 - 4 * i)) 15) 0)) (permute pc2 (keep 0 (4 * (i + 1)) (bits 56 x)))
-pc2-step i x {r} h hr =
-    let s = bits 56 x in
-    let v = bitAnd (x / 2 ^ (52 - 4 * i)) 15 in
-    let w : 4 * i + (4 + (52 - 4 * i)) ≡ 56 = omega arith in
-    let n : 4 * i + 4 ≡ 4 * (i + 1) = omega arith in
-    let group : bits 4 v ≡ take 4 (drop (4 * i) s) = group-bits (4 * i) 4 (52 - 4 * i) x ∙ ap (λ (m : ℕ). take 4 (drop (4 * i) (bits m x))) w in
-    let one : placed 56 i (bits 4 v) ≡ keep (4 * i) (4 * (i + 1)) s =
-    ap (placed 56 i) group ∙ sym (keep-placed 56 i s (length-bits 56 x) (omega arith)) ∙ ap (λ (m : ℕ). keep (4 * i) m s) n in
-    merged (permute pc2) (permute-xor pc2) 48 0 (4 * i) (4 * (i + 1)) s (omega arith) (omega arith) (small-bits 56 x) hr
-    (recast (pc2-at i v h (mask-lt (x / 2 ^ (52 - 4 * i)) 4)) (ap (permute pc2) one))
-
-pub pc2-end : (x : ℕ) {r : ℕ} → Holds 48 r (permute pc2 (keep 0 56 (bits 56 x))) → Holds 48 r (permute pc2 (bits 56 x))
-pc2-end x h = recast h (ap (permute pc2) (keep-all 56 (bits 56 x) (length-bits 56 x)))

@@ -1,4 +1,5 @@
 pub mod LinearLaws
 pub mod JoinedLaws
+pub mod ChoiceLaws
 pub mod InsideLaws
 pub mod Theorems

@@ -165,7 +165,7 @@ module _ (v w : ℕ) (t : List ℕ) {f : ℕ → ℕ} (l : Linear f) (test : per
 
 -- ---- left shifts
 
-shift-permute : (n : ℕ) (t bs : List ℕ) → permute (shiftBoth n t) bs ≡ shiftBoth n (permute t bs)
+pub shift-permute : (n : ℕ) (t bs : List ℕ) → permute (shiftBoth n t) bs ≡ shiftBoth n (permute t bs)
 unfolding permute
 shift-permute n t bs = sym (shift-map (λ (k : ℕ). getD bs (k - 1) 0) n t)
 

@@ -7,12 +7,13 @@ ghost use Rattle.fast_des.specs.Inside.{Entered, Leaves, Adds, Enciphers
 use crate::iteration::pass;
 use crate::iteration::pass_three;
 use crate::permutation::choice1;
-use crate::permutation::choice2;
+use crate::permutation::choices;
 use crate::permutation::expand;
 use crate::permutation::initial;
 use crate::permutation::inverse_initial;
 use crate::permutation::narrow;
-use crate::shift::shift;
+use crate::shift::shift_2;
+use crate::shift::shift_15;
 use crate::tables::JOINED;
 use crate::tables::PC2_GROUPS;
 
@@ -48,20 +49,35 @@ pub fn groups_table() -> [u64; 224]
     PC2_GROUPS
 }
 
-// The keys of the sixteen iterations, by a lent table.
+// The keys of the sixteen iterations, by a lent table. They lie 1, 2, 4, 6, 8, 10, 12, 14, 15, 17, 19, 21, 23, 25, 27 and 28 shifts behind permuted choice 1: from each of the four words the keys 0, 4, 8 and 12 shifts on are taken together.
 pub fn schedule_by(key: u64, groups: &[u64]) -> [u64; 16]
     requires { ⌜ now groups ≡ pc2Groups ⌝ }
     ensures { λ r. ⌜ Keys (bits 64 key) r ⌝ }
 {
-    let mut keys = [0u64; 16];
-    let mut cd = choice1(key);
-    let mut n = 0;
-    while n < 16 {
-        cd = shift(cd, n);
-        keys[n] = choice2(cd, groups);
-        n += 1;
-    }
-    keys
+    let cd = choice1(key);
+    let half = shift_15(cd);
+    let a = choices(cd, groups);
+    let b = choices(shift_2(cd), groups);
+    let c = choices(half, groups);
+    let d = choices(shift_2(half), groups);
+    [
+        d.twelve,
+        b.none,
+        a.four,
+        b.four,
+        a.eight,
+        b.eight,
+        a.twelve,
+        b.twelve,
+        c.none,
+        d.none,
+        c.four,
+        d.four,
+        c.eight,
+        d.eight,
+        c.twelve,
+        a.none,
+    ]
 }
 
 // IP, and each half expanded.

@@ -1,12 +1,12 @@
 // The permutations, by exchanges and shifts of a word's parts.
 ghost use mathlib.Core.Path.{_≡_};
-ghost use Prim.Native.Nat.{_<_};
-ghost use Rattle.des.specs.Bits.{bits};
+ghost use Prim.Native.Nat.{_+_, _*_, _<_};
+ghost use Rattle.des.specs.Bits.{bits, xorBits};
 ghost use Rattle.des.specs.Tables.{ip, ipInverse, e, pc1, pc2};
-ghost use Rattle.des.specs.Des.{permute as permuted};
+ghost use Rattle.des.specs.Des.{permute as permuted, shiftBoth};
 ghost use Rattle.des.specs.Words.{Holds};
 ghost use Rattle.fast_des.specs.Networks.{exchangeBits, spreadParts, gatherParts, middle};
-ghost use Rattle.fast_des.specs.Joined.{pc2Groups};
+ghost use Rattle.fast_des.specs.Joined.{placed, pc2Groups};
 
 // The bits that m names exchanged with those d places above them.
 fn exchange_bits(x: u64, d: u64, m: u64) -> u64
@@ -90,18 +90,48 @@ pub fn choice1(x: u64) -> u64
     c ^ d
 }
 
-// Permuted choice 2, by its table over groups of four bits.
-pub fn choice2(x: u64, groups: &[u64]) -> u64
-    requires { ⌜ now groups ≡ pc2Groups ⌝ }
-    ensures { λ r. ⌜ Holds 48 r (permuted pc2 (bits 56 x)) ⌝ }
+// The keys of four iterations: permuted choice 2 of one word shifted by 0, 4, 8 and 12 places.
+pub struct FourKeys {
+    pub none: u64,
+    pub four: u64,
+    pub eight: u64,
+    pub twelve: u64,
+}
+
+// Permuted choice 2 of group i of C and of D, c and d, when both are shifted by k groups: two entries of its table, since such a shift only moves the groups.
+fn choose(i: usize, k: usize, c: u64, d: u64, groups: &[u64]) -> u64
+    requires { ⌜ ((i < 7) × (k < 4)) × (((c < 16) × (d < 16)) × (now groups ≡ pc2Groups)) ⌝ }
+    ensures { λ r. ⌜ Holds 48 r (permuted pc2 (shiftBoth (4 * k) (xorBits (placed 56 i (bits 4 c)) (placed 56 (7 + i) (bits 4 d))))) ⌝ }
 {
-    let mut r: u64 = 0;
+    let group = (i + 7 - k) % 7;
+    let left = 16 * group + (c as usize);
+    let right = 16 * (7 + group) + (d as usize);
+    groups[left] ^ groups[right]
+}
+
+// Each group of four bits is taken out once for four keys.
+pub fn choices(x: u64, groups: &[u64]) -> FourKeys
+    requires { ⌜ now groups ≡ pc2Groups ⌝ }
+    ensures { λ r. ⌜ ((Holds 48 (r .none) (permuted pc2 (shiftBoth 0 (bits 56 x)))) × (Holds 48 (r .four) (permuted pc2 (shiftBoth 4 (bits 56 x))))) × ((Holds 48 (r .eight) (permuted pc2 (shiftBoth 8 (bits 56 x)))) × (Holds 48 (r .twelve) (permuted pc2 (shiftBoth 12 (bits 56 x))))) ⌝ }
+{
+    let mut none: u64 = 0;
+    let mut four: u64 = 0;
+    let mut eight: u64 = 0;
+    let mut twelve: u64 = 0;
     let mut i: usize = 0;
-    while i < 14 {
-        let v = (x >> (52 - 4 * (i as u64))) & 15;
-        let at = 16 * i + (v as usize);
-        r = r ^ groups[at];
+    while i < 7 {
+        let c = (x >> (52 - 4 * (i as u64))) & 15;
+        let d = (x >> (24 - 4 * (i as u64))) & 15;
+        none = none ^ choose(i, 0, c, d, groups);
+        four = four ^ choose(i, 1, c, d, groups);
+        eight = eight ^ choose(i, 2, c, d, groups);
+        twelve = twelve ^ choose(i, 3, c, d, groups);
         i += 1;
     }
-    r
+    FourKeys {
+        none,
+        four,
+        eight,
+        twelve,
+    }
 }

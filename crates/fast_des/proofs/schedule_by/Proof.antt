@@ -1,90 +1,93 @@
--- `fast_des::schedule_by` meets its contract. The loop's invariant: cd holds C and D after n iterations, and the keys of the first n iterations are made.
+-- `fast_des::schedule_by` meets its contract: each key by the shifts before it.
 -- Assumes nothing.
-use mathlib.Core.Path.{_≡_, refl, sym, ap, _∙_}
-use mathlib.Core.List.{List}
-use Prim.Native.Nat.{ℕ, suc, _≤_, _<_, _-_}
-use native.Mathlib.Omega.{arith}
-use native.Mathlib.Numerals.{add-one}
-use lib.ListN.{length, getD, length-set}
-use borrow.Author.Count.{below-none}
+use mathlib.Core.Path.{_≡_, refl, ap, _∙_}
+use mathlib.Core.List.{List, [], _∷_}
+use Prim.Native.Nat.{ℕ, suc, _+_, _<_}
+use lib.ListN.{getD}
+use borrow.Author.Count.{below-none, below-more}
 use Rattle.des.specs.Bits.{bits}
-use Rattle.des.specs.Tables.{pc2}
-use Rattle.des.specs.Des.{permute, shifted, subkey}
-use Rattle.des.proofs.KeyLaws.{keys-step, shifted-step}
+use Rattle.des.specs.Tables.{pc1, pc2, shifts}
+use Rattle.des.specs.Des.{permute, swap, shiftBoth, subkey}
+use Rattle.des.specs.Words.{Holds, upFrom}
+use Rattle.fast_des.proofs.ChoiceLaws.{along, order, key-along}
 use Rattle.fast_des.proofs.schedule_by.Statement.{statement}
 use Rattle.fast_des.proofs.schedule_by.Tie as tie
 
--- what the loop keeps
-record Kept (key : ℕ) (keys : List ℕ) (cd n : ℕ) : Type 0 where
-  most : n ≤ 16
-  sixteen : length keys ≡ 16
-  halves : bits 56 cd ≡ shifted (bits 64 key) n
-  made : (m : ℕ) → m < n → bits 48 (getD keys m 0) ≡ subkey (bits 64 key) m
-
-abbrev Inv-loop : tie.InvT-loop
-Inv-loop key groups keys₀ cd₀ n₀ keys cd n = Kept key keys cd n
-
-abbrev μ-loop : tie.MeasureT-loop
-μ-loop key groups keys₀ cd₀ n₀ keys cd n = 16 - n
-
-choice1-requires : tie.Need-choice1-requires Inv-loop μ-loop
+choice1-requires : tie.Need-choice1-requires
 choice1-requires c κs = tt
 
-loop-holds : tie.Need-loop-holds Inv-loop μ-loop
-unfolding shifted
-loop-holds c = record { most = omega arith; sixteen = refl; halves = c .choice1 .ensures .same; made = below-none _ }
+shift-15-requires : tie.Need-shift-15-requires
+shift-15-requires c κs = tt
 
-shift-requires : tie.Need-shift-requires Inv-loop μ-loop
-shift-requires c κs = c .loop-test .taken
+choices-requires : tie.Need-choices-requires
+choices-requires c κs = c .before .before .before .pre
 
-choice2-requires : tie.Need-choice2-requires Inv-loop μ-loop
-choice2-requires c κs = c .before .before .before .before .before .pre
+shift-2-requires : tie.Need-shift-2-requires
+shift-2-requires c κs = tt
 
-mul-keys : tie.Need-mul-keys Inv-loop μ-loop
-mul-keys c = omega arith
+choices-requires-2 : tie.Need-choices-requires-2
+choices-requires-2 c κs = c .before .before .before .before .before .pre
 
-array-write-keys : tie.Need-array-write-keys Inv-loop μ-loop
-array-write-keys c = omega arith
+choices-requires-3 : tie.Need-choices-requires-3
+choices-requires-3 c κs = c .before .before .before .before .before .before .pre
 
-add-n : tie.Need-add-n Inv-loop μ-loop
-add-n c = omega arith
+shift-2-requires-2 : tie.Need-shift-2-requires-2
+shift-2-requires-2 c κs = tt
 
-loop-less : tie.Need-loop-less Inv-loop μ-loop
-loop-less c = omega arith
+choices-requires-4 : tie.Need-choices-requires-4
+choices-requires-4 c κs = c .before .before .before .before .before .before .before .before .pre
 
-loop-again : tie.Need-loop-again Inv-loop μ-loop
-unfolding subkey
-loop-again c =
-    let a = c .before .before .before in
-    let n = a .loop .n in
-    let key = a .before .before .before .args .key in
-    let l : n < length (a .loop .keys) = omega arith in
-    let next : bits 56 (c .before .shift .result) ≡ shifted (bits 64 key) (suc n) =
-    shifted-step (bits 64 key) n (a .loop .cd) (c .before .shift .result) refl (a .loop .inv .halves) (c .before .shift .ensures .same) in
-    record {
-      most = omega arith;
-      sixteen = simp length-set (a .loop .inv .sixteen);
-      halves = next ∙ ap (shifted (bits 64 key)) (sym (add-one n));
-      made = keys-step (bits 64 key) (a .loop .keys) n (c .choice2 .result) l (a .loop .inv .made) (c .choice2 .ensures .same ∙ ap (permute pc2) next);
-    }
-
-returns : tie.Need-returns Inv-loop μ-loop
+returns : tie.Need-returns
+unfolding along order shifts swap shiftBoth
 returns c =
-    record { each = λ n l. c .before .loop .inv .made n (omega arith) }
+    let third = c .before .before in
+    let second = third .before in
+    let first = second .before .before in
+    let half = first .before in
+    let one = half .before in
+    let key = bits 64 (one .before .before .args .key) in
+    let start : bits 56 (one .choice1 .result) ≡ permute pc1 key = one .choice1 .ensures .same in
+    let later : bits 56 (half .shift-15 .result) ≡ along (15 ∷ []) (permute pc1 key) = half .shift-15 .ensures .same ∙ ap (shiftBoth 15) start in
+    let from-a = key-along key [] (one .choice1 .result) start in
+    let from-b = key-along key (2 ∷ []) (second .before .shift-2 .result) (second .before .shift-2 .ensures .same ∙ ap (shiftBoth 2) start) in
+    let from-c = key-along key (15 ∷ []) (half .shift-15 .result) later in
+    let from-d = key-along key (2 ∷ 15 ∷ []) (c .before .shift-22 .result) (c .before .shift-22 .ensures .same ∙ ap (shiftBoth 2) later) in
+    let a = first .choices .ensures in
+    let b = second .choices2 .ensures in
+    let e = third .choices3 .ensures in
+    let d = c .choices4 .ensures in
+    record {
+      each =
+          (below-more _ 15 (below-more _ 14 (below-more _ 13 (below-more _ 12 (below-more _ 11 (below-more _ 10 (below-more _ 9 (below-more _ 8
+          (below-more _ 7 (below-more _ 6 (below-more _ 5 (below-more _ 4 (below-more _ 3 (below-more _ 2 (below-more _ 1 (below-more _ 0 (below-none _)
+          (from-d 12 0 _ (d .1 .1) refl))
+          (from-b 0 1 _ (b .0 .0) refl))
+          (from-a 4 2 _ (a .0 .1) refl))
+          (from-b 4 3 _ (b .0 .1) refl))
+          (from-a 8 4 _ (a .1 .0) refl))
+          (from-b 8 5 _ (b .1 .0) refl))
+          (from-a 12 6 _ (a .1 .1) refl))
+          (from-b 12 7 _ (b .1 .1) refl))
+          (from-c 0 8 _ (e .0 .0) refl))
+          (from-d 0 9 _ (d .0 .0) refl))
+          (from-c 4 10 _ (e .0 .1) refl))
+          (from-d 4 11 _ (d .0 .1) refl))
+          (from-c 8 12 _ (e .1 .0) refl))
+          (from-d 8 13 _ (d .1 .0) refl))
+          (from-c 12 14 _ (e .1 .1) refl))
+          (from-a 0 15 _ (a .0 .0) refl));
+    }
 
 pub schedule-by-spec : {M : Type 1} → statement M
 schedule-by-spec =
     tie.close
     (tie.spec
-    Inv-loop
-    μ-loop
     choice1-requires
-    loop-holds
-    shift-requires
-    choice2-requires
-    mul-keys
-    array-write-keys
-    add-n
-    loop-less
-    loop-again
+    shift-15-requires
+    choices-requires
+    shift-2-requires
+    choices-requires-2
+    choices-requires-3
+    shift-2-requires-2
+    choices-requires-4
     returns)
