@@ -343,16 +343,16 @@ static void set_up_reference(void)
     made.answer = reference_set_up(now->store, now->edition->store_len, CALLER, CALLED, worst_moment(), ra, rb, made.out);
 }
 
-/* The searches of a set-up: each side finds the record, and finds it again to read its key. */
+/* The searches of a set-up: one for each side. */
 static void searches_kmac(void)
 {
-    for (int i = 0; i < 4; i++)
-        made.answer = kmac_find(now->store, now->edition->store_len, i < 2 ? CALLED : CALLER, worst_moment(), &made.end);
+    made.answer = kmac_find(now->store, now->edition->store_len, CALLED, worst_moment(), &made.end);
+    made.answer = kmac_find(now->store, now->edition->store_len, CALLER, worst_moment(), &made.end);
 }
 static void searches_reference(void)
 {
-    for (int i = 0; i < 4; i++)
-        made.answer = reference_find(now->store, now->edition->store_len, i < 2 ? CALLED : CALLER, worst_moment(), &made.end);
+    made.answer = reference_find(now->store, now->edition->store_len, CALLED, worst_moment(), &made.end);
+    made.answer = reference_find(now->store, now->edition->store_len, CALLER, worst_moment(), &made.end);
 }
 
 static void self_test(void) { made.answer = kmac_self_test(); }

@@ -21,7 +21,8 @@ use Rattle.store.specs.declared.Edition.{Edition}
 use Rattle.store.specs.declared.Edition.the-variants.{Known, Unknown}
 use Rattle.store.specs.Layout.{editionOf}
 use Rattle.store.specs.Search.{Finding, found, find, findIn}
-use Rattle.store.proofs.SearchLaws.{editionOf-says, not-found, find-placed}
+use Rattle.store.proofs.SearchLaws.{editionOf-says, not-found}
+use Rattle.store.proofs.Theorems.{whole-key}
 use Rattle.convert.specs.Convert.{convertedAs}
 use Rattle.convert.specs.declared.Converted.{Converted}
 use Rattle.convert.specs.declared.Converted.the-variants.{Done, Refused}
@@ -48,7 +49,7 @@ place-small s peer t p until e = known (editionOf (length s)) refl e
     known Unknown h q = not-found 1 p until q
     known (Known L) h q =
         let b = editionOf-says (length s) L h in
-        let at = find-placed s peer t p until e in
+        let at = whole-key .inside s peer t p until e in
         omega (arith, b .0 .total-fits, b .1)
 
 pub data-small : (unit key destination : List ℕ) (direction : Bool) (n : ℕ) → checked unit key destination direction ≡ gives n → n < 2 ^ 31

@@ -3,7 +3,7 @@
 use mathlib.Core.Path.{_≡_, refl, sym, ap, _∙_}
 use mathlib.Core.Bool.{Bool, true, false, _&&_, not}
 use mathlib.Core.List.{List}
-use Prim.Native.Nat.{ℕ, _≤_, _<_}
+use Prim.Native.Nat.{ℕ, _-_, _≤_, _<_}
 use native.Mathlib.Omega.{arith}
 use lib.Dec.{leb}
 use lib.ListN.{length, replicate}
@@ -14,6 +14,7 @@ use Rattle.octets.proofs.PartLaws.{part-whole}
 use Rattle.octets.proofs.BoolLaws.{clash, and-false-left}
 use Rattle.refusal.specs.declared.Refusal.{Refusal}
 use Rattle.refusal.specs.House.{Answer, house, gives, asks, unlessRefused, houseNumber}
+use Rattle.store.specs.Store.{HasRecord, kmacAt}
 use Rattle.store.specs.Search.{Finding, placeIn}
 use Rattle.store.specs.Search as held
 use Rattle.store.proofs.Theorems.{whole-key}
@@ -64,7 +65,7 @@ module _ (store : List ℕ) (own peer t : ℕ) where
   unfolding found
   unfound-by n e = ap (λ (f : Finding). ifTypes (leb (typeOf own) 7 && leb (typeOf peer) 7) (placeIn f)) e
 
-  -- where set-up starts, the own type has three bits, and the key is whole
+  -- where set-up starts, the own type has three bits
   served : (f : Finding) (a b : Bool) (n : ℕ) → ifTypes (a && b) (placeIn f) ≡ gives n → a ≡ true
   served f true b n e = refl
   served (held.found place end) false b n e = let z : _≡_ {A = ℕ} 0 1 = cc in absurd (omega arith)
@@ -78,20 +79,31 @@ module _ (store : List ℕ) (own peer t : ℕ) where
   pub made-type : {made about : Connection} (n : ℕ) → found store own peer t ≡ gives n → made ≡ about → about .own ≡ own → typeOf (made .own) ≤ 7
   made-type n f e o = omega (arith, type-served n f, ap (λ (m : Connection). m .own) e)
 
-  whole : (f : Finding) (b : Bool) (n : ℕ) → held.find store peer t ≡ f → ifTypes b (placeIn f) ≡ gives n → length (held.key store peer t) ≡ 24
-  whole (held.found place end) b n d e = whole-key .long store peer t place end d
-  whole (held.unfound m) b n d e = let z : _≡_ {A = ℕ} 0 1 = cc in absurd (omega arith)
+  -- and the store's search gave the place
+  placed-by : (f : Finding) (b : Bool) (n : ℕ) → ifTypes b (placeIn f) ≡ gives n → (end : ℕ) × (f ≡ held.found n end)
+  placed-by (held.found place end) true n e = (end, cc)
+  placed-by (held.found place end) false n e = let z : _≡_ {A = ℕ} 0 1 = cc in absurd (omega arith)
+  placed-by (held.unfound m) b n e = let z : _≡_ {A = ℕ} 0 1 = cc in absurd (omega arith)
+
+  place-found : (n : ℕ) → found store own peer t ≡ gives n → (end : ℕ) × (held.find store peer t ≡ held.found n end)
+  unfolding found
+  place-found n e = placed-by (held.find store peer t) (leb (typeOf own) 7 && leb (typeOf peer) 7) n e
+
+  -- where the record stands, whose KMAC the key is
+  pub record-there : (n : ℕ) → found store own peer t ≡ gives n → HasRecord store n
+  record-there n e = let p = place-found n e in whole-key .inside store peer t n (p .0) (p .1)
+
+  pub key-there : (n : ℕ) → found store own peer t ≡ gives n → held.key store peer t ≡ kmacAt store (n - 1)
+  key-there n e = let p = place-found n e in whole-key .there store peer t n (p .0) (p .1)
 
   pub key-whole : (n : ℕ) → found store own peer t ≡ gives n → length (held.key store peer t) ≡ 24
-  unfolding found
-  key-whole n e = whole (held.find store peer t) (leb (typeOf own) 7 && leb (typeOf peer) 7) n refl e
+  key-whole n e = let p = place-found n e in whole-key .long store peer t n (p .0) (p .1)
 
 -- ---- keys
 
--- a whole key, copied
-pub key-copied : (key s r : List ℕ) → length key ≡ 24 → s ≡ key → r ≡ splice (replicate 24 0) 0 (part s 0 24) → r ≡ key
-key-copied key s r l e w =
-    w ∙ ap (λ (k : List ℕ). splice (replicate 24 0) 0 (part k 0 24)) e ∙ ap (λ (k : List ℕ). splice (replicate 24 0) 0 k) (part-whole key 24 l) ∙ splice-all (replicate 24 0) key (sym l)
+-- a whole KMAC, copied
+pub kmac-copied : {kmac s r : List ℕ} → s ≡ kmac → length s ≡ 24 → r ≡ splice (replicate 24 0) 0 (part s 0 24) → r ≡ kmac
+kmac-copied {kmac} {s} e l w = w ∙ ap (λ (k : List ℕ). splice (replicate 24 0) 0 k) (part-whole s 24 l) ∙ splice-all (replicate 24 0) s (sym l) ∙ e
 
 -- of a whole KMAC the session keys are made
 pub keys-made : (kmac ra rb : List ℕ) {answer : Derived} {key : List ℕ} → length kmac ≡ 24 → Derives kmac ra rb answer key → key ≡ sessionKeys kmac ra rb
@@ -122,14 +134,14 @@ request-refused true own peer t rb store c out h {answer} {then} room at right f
 
 -- AU1 goes out
 pub request-sent : (acceptable : Bool) (own peer t : ℕ) (rb store : List ℕ) (c : Connection) (out : List ℕ) (n : ℕ) {answer : Stepped} {then made : Connection} {kmac written : List ℕ}
-    → 1032 ≤ length out → stateOf (c .state) ≡ IDLE → not acceptable ≡ false → length rb ≡ 8 → found store own peer t ≡ gives n → kmac ≡ held.key store peer t
+    → 1032 ≤ length out → stateOf (c .state) ≡ IDLE → not acceptable ≡ false → length rb ≡ 8 → found store own peer t ≡ gives n → kmac ≡ kmacAt store (n - 1)
     → made ≡ calling own peer rb kmac → answer ≡ stepped.Done (acts user.Nothing TConnReq Set 13) → then ≡ made → written ≡ splice out 0 (au1Unit (made .own) (made .rb))
     → Does (step (connectRequest acceptable own peer t rb store) c out) answer then written
 unfolding asked carried square rowIn table
 request-sent false own peer t rb store c out n room at right l f k m p e w = clash true refl right
 request-sent true own peer t rb store c out n {answer} {then} {made} {kmac} {written} room at right l f k m p e w =
     let i = connectRequest true own peer t rb store in
-    let about : made ≡ calling own peer rb (held.key store peer t) = m ∙ ap (λ (k : List ℕ). calling own peer rb k) k in
+    let about : made ≡ calling own peer rb (held.key store peer t) = m ∙ ap (λ (k : List ℕ). calling own peer rb k) (k ∙ sym (key-there store own peer t n f)) in
     does-performed i c out (squareOf no TConnReq Set (to WFTC)) n answer then written room refl (in-state i c IDLE refl at) f
     (p ∙ ap (λ (n : ℕ). stepped.Done (acts user.Nothing TConnReq Set n)) (sym (length-au1 own rb l)))
     (e ∙ about) (w ∙ ap (λ (m : Connection). splice out 0 (au1Unit (m .own) (m .rb))) about)
@@ -168,12 +180,12 @@ module _ (own t : ℕ) (ra unit store : List ℕ) (c : Connection) (out : List �
 
   -- AU2 goes out
   pub indication-answered : (n : ℕ) {answer : Stepped} {then made : Connection} {rb kmac written : List ℕ} {peer : ℕ} → length ra ≡ 8 → peer ≡ senderOf unit → found store own peer t ≡ gives n
-      → rb ≡ random unit → kmac ≡ held.key store peer t → made ≡ called own peer ra rb kmac → answer ≡ stepped.Done (acts user.Nothing TConnResp Keep 21) → then ≡ made
+      → rb ≡ random unit → kmac ≡ kmacAt store (n - 1) → made ≡ called own peer ra rb kmac → answer ≡ stepped.Done (acts user.Nothing TConnResp Keep 21) → then ≡ made
       → written ≡ splice out 0 (au2Unit (made .key) (made .own) (made .peer) (made .ra) (made .rb)) → Does (step (connectIndication true own t ra unit store) c out) answer then written
   unfolding asked carried square rowIn table
   indication-answered n {answer} {then} {made} {rb} {kmac} {written} {peer} l s f r k m p e w =
       let i = connectIndication true own t ra unit store in
-      let keyed : made ≡ called own peer ra rb (held.key store peer t) = m ∙ ap (λ (k : List ℕ). called own peer ra rb k) k in
+      let keyed : made ≡ called own peer ra rb (held.key store peer t) = m ∙ ap (λ (k : List ℕ). called own peer ra rb k) (k ∙ sym (key-there store own peer t n f)) in
       let read : made ≡ called own peer ra (random unit) (held.key store peer t) = keyed ∙ ap (λ (r : List ℕ). called own peer ra r (held.key store peer t)) r in
       let about : made ≡ called own (senderOf unit) ra (random unit) (held.key store (senderOf unit) t) = read ∙ ap (λ (x : ℕ). called own x ra (random unit) (held.key store x t)) s in
       does-performed i c out (squareOf no TConnResp Keep (to WFAU3)) n answer then written room refl

@@ -89,9 +89,9 @@ fn joined(
 {
     let peer = units::sender_of(unit);
     match search(store, own, peer, t) {
-        Searched::At(_) => {
+        Searched::At(place) => {
             let rb = units::random_of(unit);
-            send_au2(waiting(own, peer, ra, rb, kmac(store, peer, t)), out)
+            send_au2(waiting(own, peer, ra, rb, kmac(store, place)), out)
         }
         Searched::Refused(h) => refuse(c, h),
     }

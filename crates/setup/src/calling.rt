@@ -83,7 +83,7 @@ pub fn requested(
         );
     }
     match search(store, own, peer, t) {
-        Searched::At(_) => send_au1(waiting(own, peer, rb, kmac(store, peer, t)), out),
+        Searched::At(place) => send_au1(waiting(own, peer, rb, kmac(store, place)), out),
         Searched::Refused(h) => refuse(c, h),
     }
 }

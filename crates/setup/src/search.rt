@@ -1,21 +1,19 @@
 // The search where the table starts set-up: store's own, and H11 for an identity type over 7.
 ghost use mathlib.Core.Path.{_≡_};
 ghost use mathlib.Core.Bool.{_&&_};
+ghost use Prim.Native.Nat.{_-_};
 ghost use lib.Dec.{leb};
-ghost use lib.ListN.{length};
 ghost use Rattle.units.specs.Units.{typeOf};
-ghost use Rattle.store.specs.Search.{key};
+ghost use Rattle.store.specs.Store.{HasRecord, kmacAt};
 ghost use Rattle.setup.specs.Steps.{found};
 ghost use Rattle.setup.specs.Parts.{searchedAs};
 use refusal::Refusal;
 use store::Found;
+use store::KMAC;
 use units::type_of;
 
 // The largest identity type: ETY has three bits.
 const TYPE_MOST: u8 = 7;
-
-// Bytes of a KMAC.
-const KMAC: usize = 24;
 
 // What the search answers: the record's place.
 pub enum Searched {
@@ -47,12 +45,12 @@ pub fn search(store: &[u8], own: u32, peer: u32, t: u32) -> Searched
     }
 }
 
-// The KMAC that was found.
-pub fn kmac(store: &[u8], peer: u32, t: u32) -> [u8; 24]
-    requires { ⌜ length (key (now store) peer t) ≡ 24 ⌝ }
-    ensures { λ r. ⌜ r ≡ key (now (store .entry)) peer t ⌝ }
+// The KMAC at the place that was found: read there, since a second search would test the whole store again.
+pub fn kmac(store: &[u8], place: usize) -> [u8; 24]
+    requires { ⌜ HasRecord (now store) place ⌝ }
+    ensures { λ r. ⌜ r ≡ kmacAt (now (store .entry)) (place - 1) ⌝ }
 {
     let mut r = [0u8; KMAC];
-    octets::copy(&mut r, 0, store::key(store, peer, t), 0, KMAC);
+    octets::copy(&mut r, 0, store::kmac_at(store, place), 0, KMAC);
     r
 }

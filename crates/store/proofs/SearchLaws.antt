@@ -11,9 +11,10 @@ use native.Mathlib.Omega.{arith}
 use lib.ListN.{length}
 use lib.Dec.{eqb, ltb}
 use borrow.Author.Tests.{eqb-true, lt-ltb, le-ltb, ltb-true}
-use Rattle.octets.specs.Bytes.{Bytes, part}
+use Rattle.octets.specs.Bytes.{Bytes}
+use Rattle.octets.proofs.PartLaws.{part-length}
 use Rattle.store.specs.Layout.{total, Bounded, edition1, edition2, editions, pickEdition, editionIn, editionOf}
-use Rattle.store.specs.Store.{Entry, entries, entriesFrom, entryAt, keyCount, first, count, peerCount, sumBefore, sound}
+use Rattle.store.specs.Store.{Entry, HasRecord, kmacAt, entries, entriesFrom, entryAt, keyCount, first, count, peerCount, sumBefore, sound}
 use Rattle.store.specs.Search.{pickNumber, placeWhere, chosen, Finding, found, unfound, orElse, placed, findIn, find, keyOf, key}
 use Rattle.store.specs.declared.Choice.{Choice}
 use Rattle.store.specs.declared.Limits.{Limits}
@@ -156,17 +157,20 @@ module _ (L : Limits) (s : List ℕ) (peer t p until : ℕ) where
       soundly true h q = at-place (ltb (choice .place) (length (entries L s))) h refl q
       soundly false h q = not-found 12 p until q
 
+-- the KMAC of a record that stands in the store is whole
+pub kmac-long : (s : List ℕ) (p : ℕ) → HasRecord s p → length (kmacAt s (p - 1)) ≡ 24
+kmac-long s p h = part-length s (12 + 44 * (p - 1) + 8) 24 (omega (arith, h .from-one, h .inside))
+
 -- the place that find gives lies in the store, and the key stands there
 pub record Placed (s : List ℕ) (peer t p : ℕ) : Type 0 where
-  pub from-one : 0 < p
-  pub inside : 12 + 44 * (p - 1) + 44 ≤ length s
-  pub key-is : key s peer t ≡ part s (12 + 44 * (p - 1) + 8) 24
+  pub has-record : HasRecord s p
+  pub key-is : key s peer t ≡ kmacAt s (p - 1)
 
 module _ (s : List ℕ) (peer t p until : ℕ) where
-  key-at : (i : ℕ) → suc i ≡ p → keyOf (found p until) s ≡ part s (12 + 44 * (p - 1) + 8) 24
+  key-at : (i : ℕ) → suc i ≡ p → keyOf (found p until) s ≡ kmacAt s (p - 1)
   key-at i e =
       let f : i ≡ p - 1 = omega arith in
-      ap (λ (x : ℕ). keyOf (found x until) s) (sym e) ∙ ap (λ (x : ℕ). part s (12 + 44 * x + 8) 24) f
+      ap (λ (x : ℕ). keyOf (found x until) s) (sym e) ∙ ap (kmacAt s) f
 
   placed-in : (E : Edition) → find s peer t ≡ found p until → findIn E s peer t ≡ found p until → Placed s peer t p
   unfolding findIn key
@@ -180,7 +184,7 @@ module _ (s : List ℕ) (peer t p until : ℕ) where
       let m : suc c ≡ p = f .place-is in
       let fit : keyCount s ≤ L .keys = w .keys-fit in
       let size : length s ≡ 12 + 44 * L .keys + 4 * L .peers = w .size in
-      record { from-one = omega arith; inside = omega arith; key-is = ap (λ (x : Finding). keyOf x s) e ∙ key-at c m }
+      record { has-record = record { from-one = omega arith; inside = omega arith }; key-is = ap (λ (x : Finding). keyOf x s) e ∙ key-at c m }
 
   pub find-placed : find s peer t ≡ found p until → Placed s peer t p
   unfolding find

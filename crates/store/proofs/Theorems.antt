@@ -10,7 +10,6 @@ use lib.Dec.{ltb, eqb}
 use lib.ListN.{length, take}
 use borrow.Author.Tests.{eq-eqb, ne-eqb, ltb-false, ltb-true}
 use Rattle.octets.proofs.BoolLaws.{between-true, is-between, under, over}
-use Rattle.octets.proofs.PartLaws.{part-length}
 use Rattle.refusal.specs.House.{house}
 use Rattle.refusal.proofs.Laws.{not-both}
 use Rattle.store.specs.declared.Limits.{Limits}
@@ -23,7 +22,7 @@ use Rattle.store.specs.Request.{Request, work}
 use Rattle.store.specs.WellFormed.{AllReadable}
 use Rattle.store.specs.Claims.{OneStore, HeaderSays, AcceptedSaysEdition, RequestsKeepSound, BothEndsFit, ReversedNeverFits, OneMomentFits, EndlessFits, placeless, LatestTaken, WholeKey, UnsoundExactly, NoKeyExactly, OrderKeepsEnd, RefusedEmptyWritesNothing, OneAnswer}
 use Rattle.store.proofs.SoundLaws.{Sound, sound-says}
-use Rattle.store.proofs.SearchLaws.{Placed, known-edition, find-placed, find-unsound}
+use Rattle.store.proofs.SearchLaws.{Placed, kmac-long, known-edition, find-placed, find-unsound}
 use Rattle.store.proofs.FindLaws.{in-sound, twelve-unsound, found-taken, one-found, none-there, none-found, same-taken}
 use Rattle.store.proofs.DecodeLaws.{encode-entries}
 use Rattle.store.proofs.WellFormedLaws.{none-wellFormed, sound-wellFormed}
@@ -112,9 +111,11 @@ latest-taken = record { taken = found-taken; one-found = one-found }
 pub whole-key : WholeKey
 whole-key =
     record {
+      inside = λ s peer t place end e. find-placed s peer t place end e .has-record;
+      there = λ s peer t place end e. find-placed s peer t place end e .key-is;
       long = λ s peer t place end e.
           let p : Placed s peer t place = find-placed s peer t place end e in
-          ap length (p .key-is) ∙ part-length s (12 + 44 * (place - 1) + 8) 24 (omega (arith, p .inside));
+          ap length (p .key-is) ∙ kmac-long s place (p .has-record);
     }
 
 twelve-edition : (E : Edition) (s : List ℕ) (peer t : ℕ) → editionOf (length s) ≡ E → find s peer t ≡ unfound 12 → (L : Limits) × (E ≡ Known L) × (sound L s ≡ false)

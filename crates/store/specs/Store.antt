@@ -3,7 +3,7 @@
 -- Assumes nothing.
 use mathlib.Core.Bool.{Bool, true, _&&_, not}
 use mathlib.Core.List.{List, [], _∷_, _++_}
-use Prim.Native.Nat.{ℕ, zero, suc, _+_, _*_, _-_, _%_}
+use Prim.Native.Nat.{ℕ, zero, suc, _+_, _*_, _-_, _%_, _≤_, _<_}
 use lib.ListN.{length, getD, replicate}
 use lib.Dec.{leb, eqb}
 use lib.Count.{ones}
@@ -62,6 +62,11 @@ first s i = get16 s (recordAt i + 40)
 
 abbrev pub count : List ℕ → ℕ → ℕ
 count s i = get16 s (recordAt i + 42)
+
+-- a buffer that has a record at this place, the first being 1
+pub record HasRecord (s : List ℕ) (place : ℕ) : Type 0 where
+  pub from-one : 0 < place
+  pub inside : recordAt place ≤ length s
 
 abbrev pub kmacAt : List ℕ → ℕ → List ℕ
 kmacAt s i = part s (recordAt i + 8) 24

@@ -13,10 +13,10 @@ use search::chosen;
 use sound::is_sound;
 ghost use mathlib.Core.Path.{_≡_};
 ghost use mathlib.Core.List.{[]};
-ghost use Prim.Native.Nat.{_+_, _*_, _<_};
+ghost use Prim.Native.Nat.{_+_, _*_, _-_, _<_};
 ghost use lib.ListN.{length};
 ghost use Rattle.store.specs.Layout.{total, Bounded, editionOf};
-ghost use Rattle.store.specs.Store.{encode, sound};
+ghost use Rattle.store.specs.Store.{HasRecord, kmacAt, encode, sound};
 ghost use Rattle.store.specs.Search.{foundAs, findIn, find, key, emptiedAs, emptyIn, emptied};
 
 // The number and the limits of an edition of the store.
@@ -85,16 +85,24 @@ pub fn find(s: &[u8], peer: u32, t: u32) -> Found
     }
 }
 
-// The KMAC of the record that find names, as a part of the store; empty where find refuses.
+// The KMAC of the record at a place that find gave, as a part of the store: 24 bytes.
+pub fn kmac_at(s: &[u8], place: usize) -> &[u8]
+    requires { ⌜ HasRecord (now s) place ⌝ }
+    ensures { λ r. ⌜ (now r ≡ kmacAt (now (s .entry)) (place - 1)) × (length (now r) ≡ 24) ⌝ }
+{
+    let start = KEYS_AT + RECORD * (place - 1) + 8;
+    let end = start + KMAC;
+    &s[start..end]
+}
+
+// The KMAC of the record that find names; empty where find refuses.
 pub fn key(s: &[u8], peer: u32, t: u32) -> &[u8]
     ensures { λ r. ⌜ now r ≡ key (now (s .entry)) peer t ⌝ }
 {
     let Found::At(place, _) = find(s, peer, t) else {
         return &s[..0];
     };
-    let start = KEYS_AT + RECORD * (place - 1) + 8;
-    let end = start + KMAC;
-    &s[start..end]
+    kmac_at(s, place)
 }
 
 // Writes the empty store of an edition into a buffer of its length.

@@ -1,12 +1,8 @@
 -- `store::key` meets its contract.
 -- Assumes nothing.
-use mathlib.Core.Path.{_≡_, sym, ap, _∙_}
-use lib.ListN.{take, drop}
-use Prim.Native.Nat.{ℕ, _+_, _-_, _*_}
-use native.Mathlib.Omega.{arith}
-use Rattle.octets.specs.Bytes.{part}
-use Rattle.store.specs.Search.{foundAs, find}
+use mathlib.Core.Path.{sym, ap, _∙_}
 use Rattle.refusal.specs.House.{houseNumber}
+use Rattle.store.specs.Search.{foundAs}
 use Rattle.store.proofs.SearchLaws.{Placed, find-placed, key-none}
 use borrow.Author.Needs.{needs}
 use Rattle.store.proofs.key.Statement.{statement}
@@ -40,39 +36,11 @@ returns c =
     let h = enum-told .enum-told .given .0 .0 in
     sym (key-none (a .s .now) (a .peer) (a .t) (houseNumber h) (sym (find .find .ensures) ∙ ap foundAs (enum-told .enum-told .given .1)))
 
-sub-start : tie.Need-sub-start
-sub-start c = let p = found c in omega arith
-
-mul-start : tie.Need-mul-start
-mul-start c = let p = found c in omega arith
-
-add-start : tie.Need-add-start
-add-start c = let p = found c in omega arith
-
-add-start-2 : tie.Need-add-start-2
-add-start-2 c = let p = found c in omega arith
-
-add-end : tie.Need-add-end
-add-end c = let p = found c in omega arith
-
-sub-result : tie.Need-sub-result
-sub-result c = search needs
-
-part-result-start : tie.Need-part-result-start
-part-result-start c = search needs
-
-part-result-end : tie.Need-part-result-end
-part-result-end c = let p = found c in omega arith
+kmac-at-requires : tie.Need-kmac-at-requires
+kmac-at-requires c κs = found c .has-record
 
 returns-2 : tie.Need-returns-2
-unfolding part
-returns-2 c =
-    let known-told = c .before in
-    let place = known-told .before in
-    let start = place .before .before .before .before in
-    let a : ℕ = 12 + 44 * (place .place .given .0 .0 - 1) + 8 in
-    let e : a + 24 - a ≡ 24 = omega arith in
-    ap (λ (n : ℕ). take n (drop a (start .args .s .now))) e ∙ sym (found known-told .key-is)
+returns-2 c = c .kmac-at .ensures .0 ∙ sym (found (c .before) .key-is)
 
 pub key-spec : {M : Type 1} → statement M
 key-spec =
@@ -83,12 +51,5 @@ key-spec =
     enum-told
     slice-aggregate-result
     returns
-    sub-start
-    mul-start
-    add-start
-    add-start-2
-    add-end
-    sub-result
-    part-result-start
-    part-result-end
+    kmac-at-requires
     returns-2)

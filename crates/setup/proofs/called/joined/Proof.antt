@@ -6,14 +6,14 @@ use borrow.Author.Needs.{needs}
 use Rattle.refusal.specs.House.{gives}
 use Rattle.units.proofs.BuiltLaws.{au1-long}
 use Rattle.setup.specs.Steps.{found}
-use Rattle.setup.proofs.SideLaws.{searched, made-type, key-whole, indication-refused, indication-answered}
+use Rattle.setup.proofs.SideLaws.{searched, made-type, record-there, indication-refused, indication-answered}
 use Rattle.setup.proofs.called.joined.Statement.{statement}
 use Rattle.setup.proofs.called.joined.Tie as tie
 
 -- what the search found
-place : (k : tie.After-enum-told) → let read = k .before .before .before in let a = read .before .before .before .before .args in
-    found (a .store .now) (a .own) (read .sender-of .result) (a .t) ≡ gives (k .enum-told .given .0 .0)
-place k = searched (k .before .before .search .ensures) (k .enum-told .given .1)
+place : (k : tie.After-place) → let read = k .before .before .before in let a = read .before .before .before .before .args in
+    found (a .store .now) (a .own) (read .sender-of .result) (a .t) ≡ gives (k .place .given .0 .0)
+place k = searched (k .before .before .search .ensures) (k .place .given .1)
 
 sender-of-requires : tie.Need-sender-of-requires
 sender-of-requires c κs =
@@ -23,31 +23,32 @@ sender-of-requires c κs =
 search-requires : tie.Need-search-requires
 search-requires c κs = search needs
 
-enum-told : tie.Need-enum-told
-enum-told c = search needs
+enum-known-place : tie.Need-enum-known-place
+enum-known-place c = search needs
 
 random-of-requires : tie.Need-random-of-requires
 random-of-requires c κs =
-    let start = c .before .before .before .before .before .before .before in
+    let at = c .before in
+    let start = at .before .before .before .before .before .before .before in
     omega (arith, au1-long (start .args .unit .now) (start .pre .1 .1))
 
 kmac-requires : tie.Need-kmac-requires
 kmac-requires c κs =
-    let told = c .before in
-    let read = told .before .before .before in
+    let at = c .before .before in
+    let read = at .before .before .before in
     let a = read .before .before .before .before .args in
-    key-whole (a .store .now) (a .own) (read .sender-of .result) (a .t) (told .enum-told .given .0 .0) (place told)
+    record-there (a .store .now) (a .own) (read .sender-of .result) (a .t) (at .place .given .0 .0) (place at)
 
 waiting-requires : tie.Need-waiting-requires
 waiting-requires c κs = search needs
 
 send-au2-requires : tie.Need-send-au2-requires
 send-au2-requires c κs =
-    let told = c .before .before .before .before in
-    let read = told .before .before .before in
+    let at = c .before .before .before .before .before in
+    let read = at .before .before .before in
     let start = read .before .before .before .before in
     let a = start .args in
-    (made-type (a .store .now) (a .own) (read .sender-of .result) (a .t) (told .enum-told .given .0 .0) (place told) (c .before .waiting .ensures) refl, start .pre .1 .0)
+    (made-type (a .store .now) (a .own) (read .sender-of .result) (a .t) (at .place .given .0 .0) (place at) (c .before .waiting .ensures) refl, start .pre .1 .0)
 
 enum-known-h : tie.Need-enum-known-h
 enum-known-h c = search needs
@@ -64,12 +65,12 @@ returns c =
     let made = sent .before .before in
     let copied = made .before in
     let random = copied .before in
-    let told = random .before in
-    let read = told .before .before .before in
+    let at = random .before .before in
+    let read = at .before .before .before in
     let start = read .before .before .before .before in
     let a = start .args in
-    indication-answered (a .own) (a .t) (a .ra) (a .unit .now) (a .store .now) (a .c) (a .out .now) (start .pre .1 .0) (start .pre .0) (start .pre .1 .1) (told .enum-told .given .0 .0)
-    (start .good .1 .1 .1 .0 .1 .0 .1) (read .sender-of .ensures) (place told) (random .random-of .ensures)
+    indication-answered (a .own) (a .t) (a .ra) (a .unit .now) (a .store .now) (a .c) (a .out .now) (start .pre .1 .0) (start .pre .0) (start .pre .1 .1) (at .place .given .0 .0)
+    (start .good .1 .1 .1 .0 .1 .0 .1) (read .sender-of .ensures) (place at) (random .random-of .ensures)
     (copied .kmac .ensures) (made .waiting .ensures) (sent .send-au2 .ensures .0) (sent .send-au2 .ensures .1) (sent .send-au2 .ensures .2)
 
 returns-2 : tie.Need-returns-2
@@ -88,7 +89,7 @@ joined-spec =
     (tie.spec
     sender-of-requires
     search-requires
-    enum-told
+    enum-known-place
     random-of-requires
     kmac-requires
     waiting-requires

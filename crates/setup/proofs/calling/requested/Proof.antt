@@ -4,13 +4,13 @@ use mathlib.Core.Path.{_≡_, refl, _∙_}
 use borrow.Author.Needs.{needs}
 use Rattle.refusal.specs.House.{gives}
 use Rattle.setup.specs.Steps.{found}
-use Rattle.setup.proofs.SideLaws.{searched, made-type, key-whole, request-untyped, request-refused, request-sent}
+use Rattle.setup.proofs.SideLaws.{searched, made-type, record-there, request-untyped, request-refused, request-sent}
 use Rattle.setup.proofs.calling.requested.Statement.{statement}
 use Rattle.setup.proofs.calling.requested.Tie as tie
 
 -- what the search found
-place : (k : tie.After-enum-told) → let a = k .before .before .before .before .before .before .args in found (a .store .now) (a .own) (a .peer) (a .t) ≡ gives (k .enum-told .given .0 .0)
-place k = searched (k .before .before .search .ensures) (k .enum-told .given .1)
+place : (k : tie.After-place) → let a = k .before .before .before .before .before .before .args in found (a .store .now) (a .own) (a .peer) (a .t) ≡ gives (k .place .given .0 .0)
+place k = searched (k .before .before .search .ensures) (k .place .given .1)
 
 none-requires : tie.Need-none-requires
 none-requires c κs = search needs
@@ -29,23 +29,24 @@ returns c =
 search-requires : tie.Need-search-requires
 search-requires c κs = search needs
 
-enum-told : tie.Need-enum-told
-enum-told c = search needs
+enum-known-place : tie.Need-enum-known-place
+enum-known-place c = search needs
 
 kmac-requires : tie.Need-kmac-requires
 kmac-requires c κs =
-    let a = c .before .before .before .before .before .before .args in
-    key-whole (a .store .now) (a .own) (a .peer) (a .t) (c .enum-told .given .0 .0) (place c)
+    let at = c .before in
+    let a = at .before .before .before .before .before .before .args in
+    record-there (a .store .now) (a .own) (a .peer) (a .t) (at .place .given .0 .0) (place at)
 
 waiting-requires : tie.Need-waiting-requires
 waiting-requires c κs = search needs
 
 send-au1-requires : tie.Need-send-au1-requires
 send-au1-requires c κs =
-    let told = c .before .before .before in
-    let start = told .before .before .before .before .before .before in
+    let at = c .before .before .before .before in
+    let start = at .before .before .before .before .before .before in
     let a = start .args in
-    (made-type (a .store .now) (a .own) (a .peer) (a .t) (told .enum-told .given .0 .0) (place told) (c .before .waiting .ensures) refl, start .pre .1)
+    (made-type (a .store .now) (a .own) (a .peer) (a .t) (at .place .given .0 .0) (place at) (c .before .waiting .ensures) refl, start .pre .1)
 
 enum-known-h : tie.Need-enum-known-h
 enum-known-h c = search needs
@@ -61,12 +62,12 @@ returns-2 c =
     let sent = c .before .before in
     let made = sent .before .before in
     let copied = made .before in
-    let told = copied .before in
-    let searched = told .before .before in
+    let at = copied .before .before in
+    let searched = at .before .before in
     let start = searched .before .before .before .before in
     let a = start .args in
-    request-sent (a .acceptable) (a .own) (a .peer) (a .t) (a .rb) (a .store .now) (a .c) (a .out .now) (told .enum-told .given .0 .0) (start .pre .1) (start .pre .0) (searched .before .if1 .left)
-    (start .good .1 .1 .1 .1 .1 .0 .1 .0 .1) (place told) (copied .kmac .ensures) (made .waiting .ensures)
+    request-sent (a .acceptable) (a .own) (a .peer) (a .t) (a .rb) (a .store .now) (a .c) (a .out .now) (at .place .given .0 .0) (start .pre .1) (start .pre .0) (searched .before .if1 .left)
+    (start .good .1 .1 .1 .1 .1 .0 .1 .0 .1) (place at) (copied .kmac .ensures) (made .waiting .ensures)
     (sent .send-au1 .ensures .0) (sent .send-au1 .ensures .1) (sent .send-au1 .ensures .2)
 
 returns-3 : tie.Need-returns-3
@@ -86,7 +87,7 @@ requested-spec =
     acting-requires
     returns
     search-requires
-    enum-told
+    enum-known-place
     kmac-requires
     waiting-requires
     send-au1-requires
