@@ -12,6 +12,9 @@
  * what it passes is then not what the library takes. So compile every file that includes kmac.h again when KMAC_VERSION
  * rises, and check at power-on that kmac_version() is KMAC_VERSION.
  *
+ *     version 5   kmac_build, kmac_check, kmac_connect_response, kmac_data_request and kmac_unit_indication take up to 72 bytes
+ *                 more of stack. A host that gives one of them a stack of its own, of KMAC_STACK_BUILD bytes and so on, must be
+ *                 compiled again.
  *     version 4   kmac_find takes 64 bytes more of stack. A host that gives it a stack of its own, of KMAC_STACK_FIND bytes,
  *                 must be compiled again.
  *     version 3   a session remembers a transaction number, in bytes that version 2 did not read and wrote as zeros, and
@@ -153,7 +156,7 @@
 extern "C" {
 #endif
 
-#define KMAC_VERSION 4            /* of this header and its library (above); not the interface version of SUBSET-137 */
+#define KMAC_VERSION 5            /* of this header and its library (above); not the interface version of SUBSET-137 */
 
 /* Lengths in bytes. */
 #define KMAC_STORE_LEN 3852       /* the key store, edition 1 */
@@ -189,16 +192,16 @@ extern "C" {
 #define KMAC_STACK_BEGIN 64
 #define KMAC_STACK_RECEIVE 1600
 #define KMAC_STACK_SESSION_KEYS 6976
-#define KMAC_STACK_BUILD 6720
-#define KMAC_STACK_CHECK 6720
+#define KMAC_STACK_BUILD 6784
+#define KMAC_STACK_CHECK 6784
 #define KMAC_STACK_CONNECT_REQUEST 1472
-#define KMAC_STACK_CONNECT_RESPONSE 6848
-#define KMAC_STACK_DATA_REQUEST 6848
+#define KMAC_STACK_CONNECT_RESPONSE 6912
+#define KMAC_STACK_DATA_REQUEST 6912
 #define KMAC_STACK_DISCONNECT_REQUEST 64
 #define KMAC_STACK_CONNECT_INDICATION 7168
 #define KMAC_STACK_CONNECT_CONFIRMATION 7168
 #define KMAC_STACK_DISCONNECT_INDICATION 128
-#define KMAC_STACK_UNIT_INDICATION 6912
+#define KMAC_STACK_UNIT_INDICATION 6976
 #define KMAC_STACK_TIME_OUT 64
 #define KMAC_STACK_UNIT_KIND 64
 #define KMAC_STACK_DES_ENCIPHER 896

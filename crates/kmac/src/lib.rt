@@ -23,7 +23,7 @@ mod connection;
 mod sessions;
 
 // KMAC_VERSION of kmac.h: it rises where a host must be changed or compiled again.
-const VERSION: i32 = 4;
+const VERSION: i32 = 5;
 
 // The version of the library's C interface, for a host to compare with KMAC_VERSION.
 #[no_mangle]
