@@ -198,7 +198,7 @@ module _ (x : Sides) (r : Ready x) where
 
 -- ---- the two sides then
 
-partners : (c d : Connection) → c .state ≡ 3 → d .state ≡ 3 → c .peer ≡ d .own → c .responder ≡ not (d .responder) → (x : Sides) → c .key ≡ sharedKey x → d .key ≡ sharedKey x → Partners c d
+partners : (c d : Connection) → c .state ≡ stateCode DATA → d .state ≡ stateCode DATA → c .peer ≡ d .own → c .responder ≡ not (d .responder) → (x : Sides) → c .key ≡ sharedKey x → d .key ≡ sharedKey x → Partners c d
 partners c d s t p q x k l =
     record {
       c-in-DATA = s;

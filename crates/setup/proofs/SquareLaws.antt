@@ -1,16 +1,15 @@
 -- What a step does in a blank square, and with a DT unit in DATA.
 -- Assumes nothing.
 use mathlib.Core.Path.{_≡_, refl, sym, ap, ap₂, _∙_}
-use mathlib.Core.Bool.{Bool, true, false, cond}
+use mathlib.Core.Bool.{true, false, cond}
 use mathlib.Core.List.{List, []}
 use Prim.Native.Nat.{ℕ, _≤_}
 use native.Mathlib.Omega.{arith}
 use lib.Dec.{eqb}
 use lib.ListN.{length}
-use borrow.Author.Tests.{ne-eqb}
 use Rattle.octets.specs.Bytes.{splice}
 use Rattle.octets.proofs.SpliceLaws.{splice-none}
-use Rattle.refusal.specs.House.{Answer, house, gives}
+use Rattle.refusal.specs.House.{house, gives}
 use Rattle.units.specs.Units.{diUnit, code, contentsCode}
 use Rattle.setup.specs.declared.Connection.{Connection}
 use Rattle.setup.specs.declared.Kind.{Kind}
@@ -20,12 +19,12 @@ use Rattle.setup.specs.declared.State.the-variants.{IDLE, WFTC, WFAR, DA
 use Rattle.setup.specs.declared.ToUser.the-variants as user
 use Rattle.setup.specs.declared.ToTransport.the-variants.{Quiet, TDiscReqDi}
 use Rattle.setup.specs.declared.Timer.the-variants.{Keep}
-use Rattle.setup.specs.Table.{SaConnReq, TConnInd, DT, pre, SaDataInd, SaDiscInd, SaReportInd, to, Square, squareOf, a19, table, stateOf, rowIn, filled, noAction, protocolError, blank, square}
-use Rattle.setup.specs.Steps.{Verdict, because, judgedUnit, judgedData, Input, connectRequest, connectResponse, dataRequest, disconnectRequest, connectIndication, connectConfirmation, disconnectIndication, unitIndication, timeOut, plain, kindEvent, asked, sendable, carried, startsSetUp, withState, moved, acts, Answered, done, Outcome, perform, step}
+use Rattle.setup.specs.Table.{SaConnReq, TConnInd, DT, ok, pre, SaDataInd, SaDiscInd, SaReportInd, to, Square, squareOf, a19, table, stateCode, stateOf, rowIn, filled, noAction, protocolError, blank, square}
+use Rattle.setup.specs.Steps.{Verdict, because, judgedUnit, Input, connectRequest, connectResponse, dataRequest, disconnectRequest, connectIndication, connectConfirmation, disconnectIndication, unitIndication, timeOut, plain, kindEvent, asked, sendable, carried, startsSetUp, withState, moved, acts, Answered, done, Outcome, perform, step}
 use Rattle.setup.specs.Claims.{Follows, dataAnswer, closing, CountedAs, unmoved, NoUnit, BlanksFollowed, ExpiryClosesNothing}
 use Rattle.setup.proofs.StepLaws.{step-performs}
 use Rattle.setup.proofs.TableLaws.{blank-square}
-use Rattle.setup.proofs.UnitLaws.{error-performs}
+use Rattle.setup.proofs.UnitLaws.{unit-steps, error-performs, dt-reported, dt-broken, dt-accepted}
 use Rattle.setup.proofs.EndLaws.{performed-follows}
 
 -- ---- blank squares
@@ -101,19 +100,10 @@ expiry-closes-nothing =
 
 -- ---- a DT unit in DATA
 
-module _ (c : Connection) (unit out : List ℕ) (running : c .state ≡ 3) (room : 1032 ≤ length out) where
-  judged : (a : Answer) → dataAnswer c unit ≡ a → judgedUnit Dt (stateOf (c .state)) c unit ≡ judgedData a (c .responder) unit
-  unfolding judgedUnit
-  judged a e = ap (λ (n : ℕ). judgedUnit Dt (stateOf n) c unit) running ∙ ap (λ (a : Answer). judgedData a (c .responder) unit) e
-
-  in-row : (a : Answer) (v : Verdict) (q : Square) → dataAnswer c unit ≡ a → judgedData a (c .responder) unit ≡ v → square DT DATA (v .when) ≡ q → startsSetUp (q .down) ≡ false
+module _ (c : Connection) (unit out : List ℕ) (running : c .state ≡ stateCode DATA) (room : 1032 ≤ length out) where
+  in-row : (v : Verdict) (q : Square) → judgedUnit Dt DATA c unit ≡ v → square DT DATA (v .when) ≡ q → startsSetUp (q .down) ≡ false
       → step (unitIndication Dt unit) c out ≡ perform q (plain DT v c) c out
-  unfolding asked
-  in-row a v q e f g h =
-      let j : judgedUnit Dt (stateOf (c .state)) c unit ≡ v = judged a e ∙ f in
-      step-performs (unitIndication Dt unit) c out q 0 room refl
-      (ap₂ (λ (n : ℕ) (v : Verdict). square DT (stateOf n) (v .when)) running j ∙ g) (ap (λ (b : Bool). cond b (gives 0) (gives 0)) h)
-      ∙ ap (λ (v : Verdict). perform q (plain DT v c) c out) j
+  in-row v q j f g = unit-steps Dt DATA v q c unit out room (ap stateOf running) j f g
 
   -- the connection goes on
   goes-on : (x : Answered) → _≡_ {A = Outcome} (record { answer = x; connection = moved c DATA; output = splice out 0 [] }) (record { answer = x; connection = c; output = out })
@@ -122,19 +112,18 @@ module _ (c : Connection) (unit out : List ℕ) (running : c .state ≡ 3) (room
   taken : (n : ℕ) → dataAnswer c unit ≡ gives n
       → step (unitIndication Dt unit) c out ≡ record { answer = done (acts (user.DataIndication n) Quiet Keep 0); connection = c; output = out }
   unfolding square rowIn table perform carried
-  taken n e = in-row (gives n) (judgedData (gives n) (c .responder) unit) (squareOf SaDataInd Quiet Keep (to DATA)) e refl refl refl ∙ goes-on _
+  taken n e = in-row (record { when = ok; why = code 0 0; count = n }) (squareOf SaDataInd Quiet Keep (to DATA)) (dt-accepted c unit n e) refl refl ∙ goes-on _
 
   reported : dataAnswer c unit ≡ house 8
       → step (unitIndication Dt unit) c out ≡ record { answer = done (acts (user.ReportIndication 4 1) Quiet Keep 0); connection = c; output = out }
   unfolding square rowIn table perform carried
-  reported e = in-row (house 8) (because (pre 5) (code 4 1)) (squareOf SaReportInd Quiet Keep (to DATA)) e refl refl refl ∙ goes-on _
+  reported e = in-row (because (pre 5) (code 4 1)) (squareOf SaReportInd Quiet Keep (to DATA)) (dt-reported c unit 8 e refl refl) refl refl ∙ goes-on _
 
   closed : (n : ℕ) → dataAnswer c unit ≡ house n → (n ≡ 8 → ⊥) → step (unitIndication Dt unit) c out ≡ closing c (cond (eqb n 9) (contentsCode (c .responder) unit) (code 10 5)) out
   unfolding square rowIn table perform carried diUnit
   closed n e f =
       let why = cond (eqb n 9) (contentsCode (c .responder) unit) (code 10 5) in
-      in-row (house n) (because (pre 6) why) (squareOf SaDiscInd TDiscReqDi a19 (to IDLE)) e
-      (ap (λ (b : Bool). cond b (because (pre 5) (code 4 1)) (because (pre 6) why)) (ne-eqb n 8 f)) refl refl
+      in-row (because (pre 6) why) (squareOf SaDiscInd TDiscReqDi a19 (to IDLE)) (dt-broken c unit n n why e refl f refl) refl refl
 
 pub counted-as : CountedAs
 counted-as =

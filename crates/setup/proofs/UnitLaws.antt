@@ -245,7 +245,7 @@ ar-up c unit out room = go (stateOf (c .state)) refl
     go WFRESP e = other (ap (is WFAR) e)
 
 -- none of a DT outside DATA
-pub dt-elsewhere-up : (c : Connection) (unit out : List ℕ) → 1032 ≤ length out → (c .state ≡ 3 → ⊥) → [] ≡ handedUp (step (unitIndication Dt unit) c out .answer) unit
+pub dt-elsewhere-up : (c : Connection) (unit out : List ℕ) → 1032 ≤ length out → (c .state ≡ stateCode DATA → ⊥) → [] ≡ handedUp (step (unitIndication Dt unit) c out .answer) unit
 dt-elsewhere-up c unit out room e =
     error-up Dt (stateOf (c .state)) c unit out ∙ sym (ap (λ (o : Outcome). handedUp (o .answer) unit) (dt-unawaited c unit out room (not-in DATA (c .state) (omega arith) e)))
 
