@@ -6,11 +6,8 @@ ghost use Rattle.authentication.specs.Keys.{Derives};
 ghost use Rattle.authentication.specs.Unit.{Builds, checkedAs, checked, dataOf};
 use crate::cbc::mac_word;
 use crate::keys::derive;
-use crate::unit::DATA_MOST;
 use crate::unit::KEY;
 use crate::unit::MAC;
-use crate::unit::UNIT_LEAST;
-use crate::unit::UNIT_MOST;
 use crate::unit::contents_right;
 use crate::unit::is_mac;
 use crate::unit::mac_right;
@@ -22,6 +19,13 @@ mod cbc;
 pub mod keys;
 pub mod string;
 mod unit;
+
+// Bytes of a unit: the first, user data, and 8 of MAC. One of 9 has no user data: its MAC is judged, then H9 (H7 is for fewer).
+pub const UNIT_LEAST: usize = 9;
+
+pub const UNIT_MOST: usize = 1032;
+
+pub const DATA_MOST: usize = 1023;
 
 // ---- session keys
 

@@ -5,6 +5,7 @@ ghost use lib.ListN.{length, take};
 ghost use Rattle.octets.specs.Bytes.{splice, same};
 ghost use Rattle.authentication.specs.Mac.{mac};
 ghost use Rattle.authentication.specs.Unit.{flag as flagOf, header as headerOf, message, unitOf, body, macOf, rightHeader, rightContents};
+use crate::UNIT_LEAST;
 use crate::cbc::mac_word;
 
 // Bytes of a triple key.
@@ -12,13 +13,6 @@ pub const KEY: usize = 24;
 
 // Bytes of a MAC.
 pub const MAC: usize = 8;
-
-// Bytes of a unit: the first, user data, and 8 of MAC. One of 9 has no user data: its MAC is judged, then H9 (H7 is for fewer).
-pub const UNIT_LEAST: usize = 9;
-
-pub const UNIT_MOST: usize = 1032;
-
-pub const DATA_MOST: usize = 1023;
 
 // ETY and MTI of a DT unit (6.2.5.1, Table 12).
 const ETY: u8 = 0;

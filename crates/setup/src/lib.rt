@@ -17,6 +17,7 @@ use crate::received::take_dt;
 use crate::states::state_of;
 use crate::user::lost;
 use crate::user::send_dt;
+use authentication::DATA_MOST;
 use octets::between;
 use refusal::Refusal;
 use units::reason::NO_AR;
@@ -121,10 +122,8 @@ impl Connection {
 
     pub const WFRESP: u8 = 5;
 
-    // The least output buffer (H2), and the most user data of a unit (H10).
+    // The least output buffer (H2).
     pub const OUTPUT_LEAST: usize = 1032;
-
-    pub const DATA_MOST: usize = 1023;
 
     // No connection.
     pub fn none() -> Connection
@@ -195,7 +194,7 @@ impl Connection {
         if out.len() < Connection::OUTPUT_LEAST {
             return refuse(self, Refusal::OutputLength);
         }
-        if !between(1, Connection::DATA_MOST, user.len()) {
+        if !between(1, DATA_MOST, user.len()) {
             return refuse(self, Refusal::DataLength);
         }
         match state_of(self.state) {

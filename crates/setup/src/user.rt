@@ -18,10 +18,8 @@ use crate::ToUser;
 use crate::ends::acting;
 use crate::ends::ended;
 use crate::states::entering;
+use authentication::UNIT_LEAST;
 use units::etcs_id;
-
-// Bytes of a unit beside its user data.
-const UNIT_LEAST: usize = 9;
 
 // A DT goes out, in DATA.
 pub fn send_dt(c: Connection, user: &[u8], out: &mut [u8]) -> Step
