@@ -61,6 +61,9 @@ const SAF_AT: usize = 4;
 
 const RANDOM_AT: usize = 5;
 
+// Bytes of a random number.
+const RANDOM: usize = 8;
+
 // Bytes of an AU3 and of an AR: the first, and the MAC (Tables 10 and 11).
 pub const SEALED_LENGTH: usize = 9;
 
@@ -116,7 +119,7 @@ pub fn random_of(unit: &[u8]) -> [u8; 8]
     ensures { λ r. ⌜ r ≡ random (now (unit .entry)) ⌝ }
 {
     let mut r = [0u8; 8];
-    octets::copy(&mut r, 0, unit, RANDOM_AT, 8);
+    octets::copy(&mut r, 0, unit, RANDOM_AT, RANDOM);
     r
 }
 
@@ -130,7 +133,7 @@ fn put_text(out: &mut [u8], first: u8, own: u32, random: [u8; 8])
     let id = etcs_id(own);
     let head = [first, id[0], id[1], id[2], SAF];
     octets::copy(out, 0, &head, 0, 5);
-    octets::copy(out, RANDOM_AT, &random, 0, 8);
+    octets::copy(out, RANDOM_AT, &random, 0, RANDOM);
 }
 
 // A first byte and a MAC.

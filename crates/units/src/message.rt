@@ -3,6 +3,8 @@ ghost use mathlib.Core.Path.{_≡_};
 ghost use mathlib.Core.List.{_∷_, _++_};
 ghost use lib.ListN.{length};
 ghost use Rattle.units.specs.Units.{etcsId};
+use crate::AU1_LENGTH;
+use crate::RANDOM;
 use crate::etcs_id;
 
 // The 13 bytes of an AU2 before its MAC, which end in RA; RB; B.
@@ -12,9 +14,9 @@ pub fn au2_message(caller: u32, rb: [u8; 8], text: &[u8]) -> [u8; 24]
 {
     let id = etcs_id(caller);
     let mut m = [0u8; 24];
-    octets::copy(&mut m, 0, text, 0, 13);
-    octets::copy(&mut m, 13, &rb, 0, 8);
-    octets::copy(&mut m, 21, &id, 0, 3);
+    octets::copy(&mut m, 0, text, 0, AU1_LENGTH);
+    octets::copy(&mut m, AU1_LENGTH, &rb, 0, RANDOM);
+    octets::copy(&mut m, AU1_LENGTH + RANDOM, &id, 0, 3);
     m
 }
 
@@ -24,7 +26,7 @@ pub fn au3_message(first: u8, ra: [u8; 8], rb: [u8; 8]) -> [u8; 17]
 {
     let mut m = [0u8; 17];
     m[0] = first;
-    octets::copy(&mut m, 1, &rb, 0, 8);
-    octets::copy(&mut m, 9, &ra, 0, 8);
+    octets::copy(&mut m, 1, &rb, 0, RANDOM);
+    octets::copy(&mut m, 1 + RANDOM, &ra, 0, RANDOM);
     m
 }

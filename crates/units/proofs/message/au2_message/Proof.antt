@@ -26,6 +26,9 @@ copy-requires-2 c κs = search needs
 slice-aggregate-copy-4 : tie.Need-slice-aggregate-copy-4
 slice-aggregate-copy-4 c = search needs
 
+add-copy : tie.Need-add-copy
+add-copy c = search needs
+
 slice-aggregate-copy-5 : tie.Need-slice-aggregate-copy-5
 slice-aggregate-copy-5 c = search needs
 
@@ -54,6 +57,7 @@ au2-message-spec =
     slice-aggregate-copy-3
     copy-requires-2
     slice-aggregate-copy-4
+    add-copy
     slice-aggregate-copy-5
     copy-requires-3
     returns)

@@ -20,6 +20,9 @@ copy-requires c κs = search needs
 slice-aggregate-copy-3 : tie.Need-slice-aggregate-copy-3
 slice-aggregate-copy-3 c = search needs
 
+add-copy : tie.Need-add-copy
+add-copy c = search needs
+
 slice-aggregate-copy-4 : tie.Need-slice-aggregate-copy-4
 slice-aggregate-copy-4 c = search needs
 
@@ -43,6 +46,7 @@ au3-message-spec =
     slice-aggregate-copy-2
     copy-requires
     slice-aggregate-copy-3
+    add-copy
     slice-aggregate-copy-4
     copy-requires-2
     returns)
