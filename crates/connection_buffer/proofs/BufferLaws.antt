@@ -4,8 +4,8 @@ use mathlib.Core.Path.{_≡_, refl, sym, ap, _∙_}
 use mathlib.Core.List.{List, [], _++_, append-assoc}
 use Prim.Native.Nat.{ℕ, _+_, _≤_}
 use native.Mathlib.Omega.{arith}
-use lib.ListN.{length, replicate, length-append, length-replicate}
-use Rattle.octets.specs.Bytes.{part, splice}
+use lib.ListN.{length, replicate, set, length-append, length-replicate}
+use Rattle.octets.specs.Bytes.{be32, part, splice}
 use Rattle.octets.proofs.PartLaws.{part-length, part-whole}
 use Rattle.octets.proofs.SpliceLaws.{splice-all, splice-mid}
 use Rattle.authentication.specs.Unit.{flag}
@@ -16,6 +16,13 @@ use Rattle.connection_buffer.specs.ConnectionBuffer.{head, connectionByt
 
 pub part-copied : (s r : List ℕ) (i n : ℕ) → i + n ≤ length s → r ≡ splice (replicate n 0) 0 (part s i n) → r ≡ part s i n
 part-copied s r i n h e = e ∙ splice-all (replicate n 0) (part s i n) (length-replicate {A = ℕ} n 0 ∙ sym (part-length s i n h))
+
+-- ---- the first twelve, written
+
+pub head-written : (state role own peer : ℕ) {one two : List ℕ} → one ≡ splice (set (set (replicate 12 0) 0 state) 1 role) 4 (be32 own) → two ≡ splice one 8 (be32 peer)
+    → two ≡ head state role own peer
+unfolding splice
+head-written state role own peer p q = q ∙ ap (λ (b : List ℕ). splice b 8 (be32 peer)) p
 
 -- ---- the bytes, joined
 

@@ -56,20 +56,12 @@ pub fn load(buffer: &[u8; 64]) -> Connection
 fn head(state: u8, role: u8, own: u32, peer: u32) -> [u8; 12]
     ensures { λ r. ⌜ r ≡ head state role own peer ⌝ }
 {
-    [
-        state,
-        role,
-        0,
-        0,
-        (own / 16777216 % 256) as u8,
-        (own / 65536 % 256) as u8,
-        (own / 256 % 256) as u8,
-        (own % 256) as u8,
-        (peer / 16777216 % 256) as u8,
-        (peer / 65536 % 256) as u8,
-        (peer / 256 % 256) as u8,
-        (peer % 256) as u8,
-    ]
+    let mut front = [0u8; 12];
+    front[0] = state;
+    front[1] = role;
+    octets::put32(&mut front, 4, own);
+    octets::put32(&mut front, 8, peer);
+    front
 }
 
 fn joined(front: &[u8; 12], ra: &[u8; 8], rb: &[u8; 8], key: &[u8; 24]) -> [u8; 64]
