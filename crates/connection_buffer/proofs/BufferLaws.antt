@@ -9,7 +9,7 @@ use Rattle.octets.specs.Bytes.{be32, part, splice}
 use Rattle.octets.proofs.PartLaws.{part-length, part-whole}
 use Rattle.octets.proofs.SpliceLaws.{splice-all, splice-mid}
 use Rattle.authentication.specs.Unit.{flag}
-use Rattle.setup.specs.declared.Connection.{Connection}
+use Rattle.table.specs.declared.Connection.{Connection}
 use Rattle.connection_buffer.specs.ConnectionBuffer.{head, connectionBytes}
 
 -- ---- a part, copied out

@@ -16,14 +16,14 @@ use Rattle.authentication.proofs.KeyLaws.{length-keys}
 use Rattle.units.specs.declared.Fault.{Fault}
 use Rattle.units.specs.declared.Fault.the-variants.{Fine, Bad}
 use Rattle.units.specs.Units.{Test, test, senderOf, random, firstFault, au1Fault, au2Fault}
-use Rattle.setup.specs.declared.Connection.{Connection}
-use Rattle.setup.specs.declared.State.{State}
-use Rattle.setup.specs.declared.State.the-variants.{IDLE, WFTC, WFAR, DATA, WFAU3, WFRESP}
-use Rattle.setup.specs.Table.{SaConnReq, TConnInd, TConnConf, Next, stays, to, Square, stateOf, is, table, rowIn, square}
-use Rattle.setup.specs.Steps.{idle, confirmed, unless, typed, Input, connectRequest, connectResponse, dataRequest, disconnectRequest, connectIndication, connectConfirmation, disconnectIndication, unitIndication, timeOut, asked, startsSetUp, withState, moved, after, Outcome, perform, step}
-use Rattle.setup.proofs.StepLaws.{meets}
-use Rattle.setup.proofs.SideLaws.{key-whole}
-use Rattle.setup.proofs.EndLaws.{Ends, short, unsendable, unfound, performed, step-ends}
+use Rattle.table.specs.declared.Connection.{Connection}
+use Rattle.table.specs.declared.State.{State}
+use Rattle.table.specs.declared.State.the-variants.{IDLE, WFTC, WFAR, DATA, WFAU3, WFRESP}
+use Rattle.table.specs.Table.{SaConnReq, TConnInd, TConnConf, Next, stays, to, Square, stateOf, is, table, rowIn, square}
+use Rattle.table.specs.Steps.{idle, confirmed, unless, typed, Input, connectRequest, connectResponse, dataRequest, disconnectRequest, connectIndication, connectConfirmation, disconnectIndication, unitIndication, timeOut, asked, startsSetUp, withState, moved, after, Outcome, perform, step}
+use Rattle.table.proofs.StepLaws.{meets}
+use Rattle.table.proofs.SideLaws.{key-whole}
+use Rattle.table.proofs.EndLaws.{Ends, short, unsendable, unfound, performed, step-ends}
 use Rattle.connection_buffer.specs.ConnectionBuffer.{connectionOf}
 use Rattle.connection_buffer.specs.Claims.{Fitting, Lent}
 

@@ -20,20 +20,20 @@ use Rattle.units.specs.declared.Code.{Code}
 use Rattle.units.specs.declared.Fault.{Fault}
 use Rattle.units.specs.declared.Fault.the-variants.{Fine, Bad}
 use Rattle.units.specs.Units.{etcsId, random, au1Unit, au2Text, au2Mac, au2Unit, au3Mac, au3Unit, arMac, arUnit, diUnit, au1Fault, au2Fault, au3Fault, arFault, code, contentsCode}
-use Rattle.setup.specs.declared.Connection.{Connection}
-use Rattle.setup.specs.declared.Kind.{Kind}
-use Rattle.setup.specs.declared.Kind.the-variants.{Au3, Ar, Dt}
-use Rattle.setup.specs.declared.State.{State}
-use Rattle.setup.specs.declared.State.the-variants.{DATA, WFAR, WFAU3}
-use Rattle.setup.specs.declared.Actions.{Actions}
-use Rattle.setup.specs.declared.ToUser.{ToUser}
-use Rattle.setup.specs.declared.ToUser.the-variants.{Nothing, DataIndication}
-use Rattle.setup.specs.declared.ToTransport.{ToTransport}
-use Rattle.setup.specs.declared.ToTransport.the-variants.{Quiet, TConnReq, TConnResp, TDiscReq, TDiscReqDi, SendAu3, SendAr, SendDt}
-use Rattle.setup.specs.Table.{ok, pre, Up, no, SaConnInd, SaConnConf, SaDataInd, SaDiscInd, SaReportInd, stateOf, is}
-use Rattle.setup.specs.Steps.{confirmed, Verdict, because, unless, typed, outOfSequence, judgedData, judgedUnit, Input, connectRequest, connectResponse, dataRequest, disconnectRequest, connectIndication, connectConfirmation, disconnectIndication, unitIndication, timeOut, Asked, asked, sendable, carried, toUser, Answered, done, refused, refuse, atTable, step}
-use Rattle.setup.proofs.StepLaws.{meets}
-use Rattle.setup.proofs.EndLaws.{step-follows}
+use Rattle.table.specs.declared.Connection.{Connection}
+use Rattle.table.specs.declared.Kind.{Kind}
+use Rattle.table.specs.declared.Kind.the-variants.{Au3, Ar, Dt}
+use Rattle.table.specs.declared.State.{State}
+use Rattle.table.specs.declared.State.the-variants.{DATA, WFAR, WFAU3}
+use Rattle.table.specs.declared.Actions.{Actions}
+use Rattle.table.specs.declared.ToUser.{ToUser}
+use Rattle.table.specs.declared.ToUser.the-variants.{Nothing, DataIndication}
+use Rattle.table.specs.declared.ToTransport.{ToTransport}
+use Rattle.table.specs.declared.ToTransport.the-variants.{Quiet, TConnReq, TConnResp, TDiscReq, TDiscReqDi, SendAu3, SendAr, SendDt}
+use Rattle.table.specs.Table.{ok, pre, Up, no, SaConnInd, SaConnConf, SaDataInd, SaDiscInd, SaReportInd, stateOf, is}
+use Rattle.table.specs.Steps.{confirmed, Verdict, because, unless, typed, outOfSequence, judgedData, judgedUnit, Input, connectRequest, connectResponse, dataRequest, disconnectRequest, connectIndication, connectConfirmation, disconnectIndication, unitIndication, timeOut, Asked, asked, sendable, carried, toUser, Answered, done, refused, refuse, atTable, step}
+use Rattle.table.proofs.StepLaws.{meets}
+use Rattle.table.proofs.EndLaws.{step-follows}
 use Rattle.connection_buffer.specs.ConnectionBuffer.{connectionOf, Short}
 
 -- what is not refused is sendable

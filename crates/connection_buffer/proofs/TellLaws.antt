@@ -8,10 +8,10 @@ use mir.Syntax.{w32}
 use mir.Val.{SFits, toZ, ofZ}
 use mir.ValLaws.{toZ-ofZ}
 use Rattle.refusal.specs.Code.{code}
-use Rattle.setup.specs.declared.Connection.{Connection}
-use Rattle.setup.specs.declared.Kind.{Kind}
-use Rattle.setup.specs.declared.Stepped.{Stepped}
-use Rattle.setup.specs.Steps.{Input, unitIndication, Answered, step, steppedAs, Does}
+use Rattle.table.specs.declared.Connection.{Connection}
+use Rattle.table.specs.declared.Kind.{Kind}
+use Rattle.table.specs.declared.Stepped.{Stepped}
+use Rattle.table.specs.Steps.{Input, unitIndication, Answered, step, steppedAs, Does}
 use Rattle.connection_buffer.specs.ConnectionBuffer.{connectionOf, kindNumbered, unitLength, Short, connectionAfter, eventsAfter, Tells}
 use Rattle.connection_buffer.proofs.LengthLaws.{brought, step-told}
 

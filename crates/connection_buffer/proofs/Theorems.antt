@@ -10,13 +10,13 @@ use Rattle.octets.specs.Bytes.{be32, get16, part, nonzero}
 use Rattle.octets.proofs.PartLaws.{part-mid}
 use Rattle.octets.proofs.WordLaws.{get16-be16, get32-be32}
 use Rattle.authentication.specs.Unit.{flag}
-use Rattle.setup.specs.declared.Connection.{Connection}
-use Rattle.setup.specs.declared.Kind.{Kind}
-use Rattle.setup.specs.declared.Kind.the-variants.{Au3, Ar, Dt}
-use Rattle.setup.specs.declared.ToUser.{ToUser}
-use Rattle.setup.specs.declared.ToUser.the-variants.{Nothing, ConnectIndication, ConnectConfirmation, DataIndication, DisconnectIndication, ReportIndication}
-use Rattle.setup.specs.Steps.{Answered, done, refused, step}
-use Rattle.setup.proofs.Theorems.{refusal-leaves}
+use Rattle.table.specs.declared.Connection.{Connection}
+use Rattle.table.specs.declared.Kind.{Kind}
+use Rattle.table.specs.declared.Kind.the-variants.{Au3, Ar, Dt}
+use Rattle.table.specs.declared.ToUser.{ToUser}
+use Rattle.table.specs.declared.ToUser.the-variants.{Nothing, ConnectIndication, ConnectConfirmation, DataIndication, DisconnectIndication, ReportIndication}
+use Rattle.table.specs.Steps.{Answered, done, refused, step}
+use Rattle.table.proofs.Theorems.{refusal-leaves}
 use Rattle.connection_buffer.specs.ConnectionBuffer.{head, connectionBytes, connectionOf, eventsWith, transportNumber, timerNumber, kindNumber, kindNumbered, connectionAfter, eventsAfter}
 use Rattle.connection_buffer.specs.Claims.{Fitting, ReadAsWritten, ZerosAreIdle, ConnectionsChain, RefusalWritesNowhere, EventsAgree, KindsAreNumbered}
 use Rattle.connection_buffer.proofs.LengthLaws.{data-most}

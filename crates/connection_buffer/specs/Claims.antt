@@ -6,11 +6,11 @@ use Prim.Native.Nat.{ℕ, _<_}
 use lib.IntN.{ℤ}
 use lib.ListN.{length, getD, replicate}
 use Rattle.octets.specs.Bytes.{Bytes, get16}
-use Rattle.setup.specs.declared.Connection.{Connection}
-use Rattle.setup.specs.declared.Kind.{Kind}
-use Rattle.setup.specs.declared.ToUser.the-variants.{DataIndication}
-use Rattle.setup.specs.declared.Actions.{Actions}
-use Rattle.setup.specs.Steps.{idle, Input, connectRequest, connectResponse, dataRequest, disconnectRequest, connectIndication, connectConfirmation, disconnectIndication, unitIndication, timeOut, done, refused, step}
+use Rattle.table.specs.declared.Connection.{Connection}
+use Rattle.table.specs.declared.Kind.{Kind}
+use Rattle.table.specs.declared.ToUser.the-variants.{DataIndication}
+use Rattle.table.specs.declared.Actions.{Actions}
+use Rattle.table.specs.Steps.{idle, Input, connectRequest, connectResponse, dataRequest, disconnectRequest, connectIndication, connectConfirmation, disconnectIndication, unitIndication, timeOut, done, refused, step}
 use Rattle.connection_buffer.specs.ConnectionBuffer.{connectionBytes, connectionOf, kindNumber, kindNumbered, Tells}
 
 -- ---- a connection as bytes

@@ -11,17 +11,17 @@ use Rattle.octets.specs.Bytes.{get32, be16, be32, part, nonzero}
 use Rattle.refusal.specs.House.{Answer, house, gives}
 use Rattle.refusal.specs.Code.{code}
 use Rattle.authentication.specs.Unit.{flag}
-use Rattle.setup.specs.declared.Connection.{Connection}
-use Rattle.setup.specs.declared.Kind.{Kind}
-use Rattle.setup.specs.declared.Kind.the-variants.{Au3, Ar, Dt}
-use Rattle.setup.specs.declared.ToUser.{ToUser}
-use Rattle.setup.specs.declared.ToUser.the-variants.{Nothing, ConnectIndication, ConnectConfirmation, DataIndication, DisconnectIndication, ReportIndication}
-use Rattle.setup.specs.declared.ToTransport.{ToTransport}
-use Rattle.setup.specs.declared.ToTransport.the-variants.{Quiet, TConnReq, TConnResp, TDiscReq, TDiscReqDi, SendAu3, SendAr, SendDt}
-use Rattle.setup.specs.declared.Timer.{Timer}
-use Rattle.setup.specs.declared.Timer.the-variants.{Keep, Set, Stop, StopAll}
-use Rattle.setup.specs.declared.Actions.{Actions}
-use Rattle.setup.specs.Steps.{Answered, done, refused, Outcome}
+use Rattle.table.specs.declared.Connection.{Connection}
+use Rattle.table.specs.declared.Kind.{Kind}
+use Rattle.table.specs.declared.Kind.the-variants.{Au3, Ar, Dt}
+use Rattle.table.specs.declared.ToUser.{ToUser}
+use Rattle.table.specs.declared.ToUser.the-variants.{Nothing, ConnectIndication, ConnectConfirmation, DataIndication, DisconnectIndication, ReportIndication}
+use Rattle.table.specs.declared.ToTransport.{ToTransport}
+use Rattle.table.specs.declared.ToTransport.the-variants.{Quiet, TConnReq, TConnResp, TDiscReq, TDiscReqDi, SendAu3, SendAr, SendDt}
+use Rattle.table.specs.declared.Timer.{Timer}
+use Rattle.table.specs.declared.Timer.the-variants.{Keep, Set, Stop, StopAll}
+use Rattle.table.specs.declared.Actions.{Actions}
+use Rattle.table.specs.Steps.{Answered, done, refused, Outcome}
 
 -- ---- a connection
 

@@ -5,12 +5,12 @@ ghost use Prim.Native.Nat.{_+_, _≤_};
 ghost use lib.ListN.{replicate};
 ghost use Rattle.octets.specs.Bytes.{part};
 ghost use Rattle.connection_buffer.specs.ConnectionBuffer.{head, connectionBytes, connectionOf, transportNumber, timerNumber, eventsWith, eventBytes, kindNumber, kindNumbered};
-use setup::Actions;
-use setup::Connection;
-use setup::Kind;
-use setup::Timer;
-use setup::ToTransport;
-use setup::ToUser;
+use table::Actions;
+use table::Connection;
+use table::Kind;
+use table::Timer;
+use table::ToTransport;
+use table::ToUser;
 use units::header::flag;
 
 // ---- a connection

@@ -6,14 +6,14 @@ use crate::buffers::kind_number;
 use crate::buffers::kind_numbered;
 use crate::buffers::load;
 use refusal::refusal_code;
-use setup::Step;
-use setup::Stepped;
 use setup::kind_of;
+use table::Step;
+use table::Stepped;
 ghost use mathlib.Core.Path.{_≡_};
 ghost use Rattle.octets.specs.Bytes.{nonzero};
 ghost use Rattle.refusal.specs.House.{gives};
 ghost use Rattle.refusal.specs.Code.{code};
-ghost use Rattle.setup.specs.Steps.{kindOf, connectRequest, connectResponse, dataRequest, disconnectRequest, connectIndication, connectConfirmation, disconnectIndication, unitIndication, timeOut, step, steppedAs};
+ghost use Rattle.table.specs.Steps.{kindOf, connectRequest, connectResponse, dataRequest, disconnectRequest, connectIndication, connectConfirmation, disconnectIndication, unitIndication, timeOut, step, steppedAs};
 ghost use Rattle.connection_buffer.specs.ConnectionBuffer.{connectionOf, kindNumber, kindNumbered, unitLength, Short, connectionAfter, eventsAfter, Tells};
 
 mod buffers;
@@ -54,7 +54,7 @@ pub fn connect_request(
     ensures { λ r. ⌜ Tells (step (connectRequest (nonzero acceptable) own peer t rb (now (store .entry))) (connectionOf (now (connection .entry))) (now (out .entry))) r (now (connection .entry)) (now (connection .exit)) (now (events .entry)) (now (events .exit)) (now (out .exit)) ⌝ }
 {
     let before = load(connection);
-    let taken = before.request(acceptable != 0, own, peer, t, rb, store, out);
+    let taken = setup::request(before, acceptable != 0, own, peer, t, rb, store, out);
     tell(taken, connection, events)
 }
 
@@ -63,7 +63,7 @@ pub fn connect_response(connection: &mut [u8; 64], events: &mut [u8; 8], out: &m
     ensures { λ r. ⌜ Tells (step connectResponse (connectionOf (now (connection .entry))) (now (out .entry))) r (now (connection .entry)) (now (connection .exit)) (now (events .entry)) (now (events .exit)) (now (out .exit)) ⌝ }
 {
     let before = load(connection);
-    let taken = before.respond(out);
+    let taken = setup::respond(before, out);
     tell(taken, connection, events)
 }
 
@@ -77,7 +77,7 @@ pub fn data_request(
     ensures { λ r. ⌜ Tells (step (dataRequest (now (user .entry))) (connectionOf (now (connection .entry))) (now (out .entry))) r (now (connection .entry)) (now (connection .exit)) (now (events .entry)) (now (events .exit)) (now (out .exit)) ⌝ }
 {
     let before = load(connection);
-    let taken = before.send(user, out);
+    let taken = setup::send(before, user, out);
     tell(taken, connection, events)
 }
 
@@ -92,7 +92,7 @@ pub fn disconnect_request(
     ensures { λ r. ⌜ Tells (step (disconnectRequest reason sub) (connectionOf (now (connection .entry))) (now (out .entry))) r (now (connection .entry)) (now (connection .exit)) (now (events .entry)) (now (events .exit)) (now (out .exit)) ⌝ }
 {
     let before = load(connection);
-    let taken = before.release(reason, sub, out);
+    let taken = setup::release(before, reason, sub, out);
     tell(taken, connection, events)
 }
 
@@ -113,7 +113,7 @@ pub fn connect_indication(
     ensures { λ r. ⌜ Tells (step (connectIndication (nonzero acceptable) own t ra (now (unit .entry)) (now (store .entry))) (connectionOf (now (connection .entry))) (now (out .entry))) r (now (connection .entry)) (now (connection .exit)) (now (events .entry)) (now (events .exit)) (now (out .exit)) ⌝ }
 {
     let before = load(connection);
-    let taken = before.indicated(acceptable != 0, own, t, ra, unit, store, out);
+    let taken = setup::indicated(before, acceptable != 0, own, t, ra, unit, store, out);
     tell(taken, connection, events)
 }
 
@@ -127,7 +127,7 @@ pub fn connect_confirmation(
     ensures { λ r. ⌜ Tells (step (connectConfirmation (now (unit .entry))) (connectionOf (now (connection .entry))) (now (out .entry))) r (now (connection .entry)) (now (connection .exit)) (now (events .entry)) (now (events .exit)) (now (out .exit)) ⌝ }
 {
     let before = load(connection);
-    let taken = before.confirmed(unit, out);
+    let taken = setup::confirmed(before, unit, out);
     tell(taken, connection, events)
 }
 
@@ -142,7 +142,7 @@ pub fn disconnect_indication(
     ensures { λ r. ⌜ Tells (step (disconnectIndication reason (now (unit .entry))) (connectionOf (now (connection .entry))) (now (out .entry))) r (now (connection .entry)) (now (connection .exit)) (now (events .entry)) (now (events .exit)) (now (out .exit)) ⌝ }
 {
     let before = load(connection);
-    let taken = before.disconnected(reason, unit, out);
+    let taken = setup::disconnected(before, reason, unit, out);
     tell(taken, connection, events)
 }
 
@@ -157,7 +157,7 @@ pub fn unit_indication(
     ensures { λ r. ⌜ Tells (step (unitIndication (kindNumbered kind) (now (unit .entry))) (connectionOf (now (connection .entry))) (now (out .entry))) r (now (connection .entry)) (now (connection .exit)) (now (events .entry)) (now (events .exit)) (now (out .exit)) ⌝ }
 {
     let before = load(connection);
-    let taken = before.unit(kind_numbered(kind), unit, out);
+    let taken = setup::unit(before, kind_numbered(kind), unit, out);
     tell(taken, connection, events)
 }
 
@@ -175,6 +175,6 @@ pub fn time_out(connection: &mut [u8; 64], events: &mut [u8; 8], out: &mut [u8])
     ensures { λ r. ⌜ Tells (step timeOut (connectionOf (now (connection .entry))) (now (out .entry))) r (now (connection .entry)) (now (connection .exit)) (now (events .entry)) (now (events .exit)) (now (out .exit)) ⌝ }
 {
     let before = load(connection);
-    let taken = before.time_out(out);
+    let taken = setup::time_out(before, out);
     tell(taken, connection, events)
 }

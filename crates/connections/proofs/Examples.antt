@@ -19,8 +19,8 @@ use Rattle.authentication.specs.Mac.{block, chain, finish, cbcMac, unpadded, pa
 use Rattle.authentication.specs.Keys.{left, right, triple, ks1, ks2, ks3, odd, sessionKeys}
 use Rattle.authentication.specs.Unit.{message, unitOf}
 use Rattle.units.specs.Units.{etcsId, au1Unit, au2Text, au2Mac, au2Unit, au3Mac, au3Unit, arMac, arUnit}
-use Rattle.setup.specs.declared.Connection.{Connection}
-use Rattle.setup.specs.Steps.{found, dataRequest, step}
+use Rattle.table.specs.declared.Connection.{Connection}
+use Rattle.table.specs.Steps.{found, dataRequest, step}
 use Rattle.connections.specs.Runs.{Sides, unitSent, step1, step2, step3, step5, step6}
 use Rattle.connections.specs.Claims.{Ready, sharedKey}
 use Rattle.connections.proofs.SideLaws.{first, second, third, fifth, completes, unit-there}

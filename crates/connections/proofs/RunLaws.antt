@@ -11,13 +11,13 @@ use borrow.Author.Tests.{leb-true, leb-false}
 use Rattle.octets.specs.Bytes.{part}
 use Rattle.authentication.specs.Claims.{IsBuilt}
 use Rattle.units.specs.Units.{etcsId}
-use Rattle.setup.specs.declared.Connection.{Connection}
-use Rattle.setup.specs.declared.State.{State}
-use Rattle.setup.specs.declared.State.the-variants.{IDLE}
-use Rattle.setup.specs.Table.{stateOf}
-use Rattle.setup.specs.Steps.{Input, Outcome, refuse, step}
-use Rattle.setup.specs.Claims.{CheckedData, unmoved}
-use Rattle.setup.proofs.Theorems.{data-only-checked, refused-first, expiry-closes-nothing}
+use Rattle.table.specs.declared.Connection.{Connection}
+use Rattle.table.specs.declared.State.{State}
+use Rattle.table.specs.declared.State.the-variants.{IDLE}
+use Rattle.table.specs.Table.{stateOf}
+use Rattle.table.specs.Steps.{Input, Outcome, refuse, step}
+use Rattle.table.specs.Claims.{CheckedData, unmoved}
+use Rattle.table.proofs.Theorems.{data-only-checked, refused-first, expiry-closes-nothing}
 use Rattle.connections.specs.Runs.{noted, Call, call, World, next, final, run, start}
 use Rattle.connections.specs.Claims.{HoldsSessionKey, Holds, HoldsIn, KeyInEachState, IdleIsEmpty, SessionData, OnlyCheckedData, BringsStore, request, indication, ExpiryClosesNothingLater}
 use Rattle.connections.proofs.TrackLaws.{run-holds}

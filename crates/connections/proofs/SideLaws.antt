@@ -21,18 +21,18 @@ use Rattle.authentication.proofs.Theorems.{accepted-exactly-built}
 use Rattle.units.specs.declared.Fault.{Fault}
 use Rattle.units.specs.Units.{typeOf, etcsId, senderOf, random, au1Unit, au2Unit, au3Unit, arUnit, au2Fault}
 use Rattle.units.proofs.Theorems.{built-are-fine, fields-are-told}
-use Rattle.setup.specs.declared.Connection.{Connection}
-use Rattle.setup.specs.declared.Kind.the-variants.{Au3, Ar, Dt}
-use Rattle.setup.specs.declared.State.{State}
-use Rattle.setup.specs.declared.State.the-variants.{IDLE, WFTC, WFAR, DATA, WFAU3, WFRESP}
-use Rattle.setup.specs.declared.ToUser.{ToUser}
-use Rattle.setup.specs.declared.ToUser.the-variants as user
-use Rattle.setup.specs.declared.ToTransport.the-variants.{Quiet, TConnReq, TConnResp, SendAu3, SendAr, SendDt}
-use Rattle.setup.specs.declared.Timer.the-variants.{Keep}
-use Rattle.setup.specs.Table.{SaDataReq, TConnInd, TConnConf, AU3, AR, ok, no, SaConnInd, SaConnConf, to, Square, squareOf, a5, a6, table, stateCode, stateOf, rowIn, square}
-use Rattle.setup.specs.Steps.{idle, calling, unless, typed, judgedUnit, found, ifTypes, Input, connectRequest, connectResponse, dataRequest, connectIndication, connectConfirmation, unitIndication, asked, sendable, carried, startsSetUp, toUser, withState, after, acts, done, Outcome, perform, step, handedUp, kindOf}
-use Rattle.setup.proofs.StepLaws.{meets, step-performs}
-use Rattle.setup.proofs.Theorems.{kind-of, counted-as}
+use Rattle.table.specs.declared.Connection.{Connection}
+use Rattle.table.specs.declared.Kind.the-variants.{Au3, Ar, Dt}
+use Rattle.table.specs.declared.State.{State}
+use Rattle.table.specs.declared.State.the-variants.{IDLE, WFTC, WFAR, DATA, WFAU3, WFRESP}
+use Rattle.table.specs.declared.ToUser.{ToUser}
+use Rattle.table.specs.declared.ToUser.the-variants as user
+use Rattle.table.specs.declared.ToTransport.the-variants.{Quiet, TConnReq, TConnResp, SendAu3, SendAr, SendDt}
+use Rattle.table.specs.declared.Timer.the-variants.{Keep}
+use Rattle.table.specs.Table.{SaDataReq, TConnInd, TConnConf, AU3, AR, ok, no, SaConnInd, SaConnConf, to, Square, squareOf, a5, a6, table, stateCode, stateOf, rowIn, square}
+use Rattle.table.specs.Steps.{idle, calling, unless, typed, judgedUnit, found, ifTypes, Input, connectRequest, connectResponse, dataRequest, connectIndication, connectConfirmation, unitIndication, asked, sendable, carried, startsSetUp, toUser, withState, after, acts, done, Outcome, perform, step, handedUp, kindOf}
+use Rattle.table.proofs.StepLaws.{meets, step-performs}
+use Rattle.table.proofs.Theorems.{kind-of, counted-as}
 use Rattle.connections.specs.Runs.{Sides, unitSent, step1, step2, step3, step4, step5, step6}
 use Rattle.connections.specs.Claims.{Ready, sharedKey, Partners, Completes, Arrived, DataArrives}
 

@@ -8,15 +8,15 @@ use Rattle.octets.proofs.BoolLaws.{clash, and-left, and-right}
 use Rattle.refusal.specs.House.{gives}
 use Rattle.authentication.specs.Keys.{sessionKeys}
 use Rattle.units.specs.Units.{random}
-use Rattle.setup.specs.declared.Connection.{Connection}
-use Rattle.setup.specs.declared.Kind.the-variants.{Au3, Ar, Dt}
-use Rattle.setup.specs.declared.State.{State}
-use Rattle.setup.specs.declared.State.the-variants.{IDLE, WFTC, WFAR, DATA, WFAU3, WFRESP}
-use Rattle.setup.specs.Table.{Event, SaConnReq, SaConnResp, SaDataReq, SaDiscReq, TConnInd, TConnConf, TDiscInd, AU3, AR, DT, TimeOut, Next, stays, to, Square, table, stateOf, is}
-use Rattle.setup.specs.Steps.{Input, connectRequest, connectResponse, dataRequest, disconnectRequest, connectIndication, connectConfirmation, disconnectIndication, unitIndication, timeOut, asked, startsSetUp, withState, moved, after, Outcome, perform}
-use Rattle.setup.proofs.StepLaws.{meets}
-use Rattle.setup.proofs.TableLaws.{same-state, every-square}
-use Rattle.setup.proofs.EndLaws.{Ends, short, unsendable, unfound, performed, step-ends}
+use Rattle.table.specs.declared.Connection.{Connection}
+use Rattle.table.specs.declared.Kind.the-variants.{Au3, Ar, Dt}
+use Rattle.table.specs.declared.State.{State}
+use Rattle.table.specs.declared.State.the-variants.{IDLE, WFTC, WFAR, DATA, WFAU3, WFRESP}
+use Rattle.table.specs.Table.{Event, SaConnReq, SaConnResp, SaDataReq, SaDiscReq, TConnInd, TConnConf, TDiscInd, AU3, AR, DT, TimeOut, Next, stays, to, Square, table, stateOf, is}
+use Rattle.table.specs.Steps.{Input, connectRequest, connectResponse, dataRequest, disconnectRequest, connectIndication, connectConfirmation, disconnectIndication, unitIndication, timeOut, asked, startsSetUp, withState, moved, after, Outcome, perform}
+use Rattle.table.proofs.StepLaws.{meets}
+use Rattle.table.proofs.TableLaws.{same-state, every-square}
+use Rattle.table.proofs.EndLaws.{Ends, short, unsendable, unfound, performed, step-ends}
 use Rattle.connections.specs.Runs.{Account, tells, told, noted, Call, call, World, next, final, run, start}
 use Rattle.connections.specs.Claims.{HoldsKmac, HoldsSessionKey, Holds, HoldsIn}
 

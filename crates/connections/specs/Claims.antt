@@ -11,16 +11,16 @@ use Rattle.store.specs.Search as held
 use Rattle.authentication.specs.Keys.{sessionKeys}
 use Rattle.authentication.specs.Claims.{IsBuilt}
 use Rattle.units.specs.Units.{etcsId}
-use Rattle.setup.specs.declared.Connection.{Connection}
-use Rattle.setup.specs.declared.Actions.{Actions}
-use Rattle.setup.specs.declared.Kind.the-variants.{Au3, Ar, Dt}
-use Rattle.setup.specs.declared.State.{State}
-use Rattle.setup.specs.declared.State.the-variants.{IDLE, WFTC, WFAR, DATA, WFAU3, WFRESP}
-use Rattle.setup.specs.declared.ToUser.the-variants as user
-use Rattle.setup.specs.declared.ToTransport.the-variants.{Quiet}
-use Rattle.setup.specs.declared.Timer.the-variants.{Keep}
-use Rattle.setup.specs.Table.{a6, stateCode, stateOf}
-use Rattle.setup.specs.Steps.{idle, kindOf, found, Input, connectRequest, dataRequest, connectIndication, unitIndication, acts, done, Outcome, step, handedUp}
+use Rattle.table.specs.declared.Connection.{Connection}
+use Rattle.table.specs.declared.Actions.{Actions}
+use Rattle.table.specs.declared.Kind.the-variants.{Au3, Ar, Dt}
+use Rattle.table.specs.declared.State.{State}
+use Rattle.table.specs.declared.State.the-variants.{IDLE, WFTC, WFAR, DATA, WFAU3, WFRESP}
+use Rattle.table.specs.declared.ToUser.the-variants as user
+use Rattle.table.specs.declared.ToTransport.the-variants.{Quiet}
+use Rattle.table.specs.declared.Timer.the-variants.{Keep}
+use Rattle.table.specs.Table.{a6, stateCode, stateOf}
+use Rattle.table.specs.Steps.{idle, kindOf, found, Input, connectRequest, dataRequest, connectIndication, unitIndication, acts, done, Outcome, step, handedUp}
 use Rattle.connections.specs.Runs.{Account, kmacOf, keyOf, Call, call, World, run, Sides, unitSent, step3, step4, step5, step6}
 
 -- ---- what a connection holds in each state, after any list of events

@@ -7,11 +7,11 @@ use lib.ListN.{take, replicate}
 use Rattle.store.specs.Search as held
 use Rattle.authentication.specs.Keys.{sessionKeys}
 use Rattle.units.specs.Units.{senderOf, random}
-use Rattle.setup.specs.declared.Connection.{Connection}
-use Rattle.setup.specs.declared.Kind.the-variants.{Au3, Ar}
-use Rattle.setup.specs.declared.ToTransport.{ToTransport}
-use Rattle.setup.specs.declared.ToTransport.the-variants.{Quiet, TConnReq, TConnResp, TDiscReq, TDiscReqDi, SendAu3, SendAr, SendDt}
-use Rattle.setup.specs.Steps.{Input, connectRequest, connectResponse, dataRequest, disconnectRequest, connectIndication, connectConfirmation, disconnectIndication, unitIndication, timeOut, Answered, done, refused, Outcome, idle, step}
+use Rattle.table.specs.declared.Connection.{Connection}
+use Rattle.table.specs.declared.Kind.the-variants.{Au3, Ar}
+use Rattle.table.specs.declared.ToTransport.{ToTransport}
+use Rattle.table.specs.declared.ToTransport.the-variants.{Quiet, TConnReq, TConnResp, TDiscReq, TDiscReqDi, SendAu3, SendAr, SendDt}
+use Rattle.table.specs.Steps.{Input, connectRequest, connectResponse, dataRequest, disconnectRequest, connectIndication, connectConfirmation, disconnectIndication, unitIndication, timeOut, Answered, done, refused, Outcome, idle, step}
 
 -- ---- the account of a session, kept of inputs and answers alone
 

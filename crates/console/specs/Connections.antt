@@ -5,9 +5,9 @@ use mathlib.Core.List.{List, []}
 use Prim.Native.Nat.{ℕ}
 use lib.Dec.{eqb}
 use Rattle.des.specs.Bits.{bits, bytesOfBits}
-use Rattle.setup.specs.declared.Kind.{Kind}
-use Rattle.setup.specs.declared.Kind.the-variants.{Au3, Ar, Dt}
-use Rattle.setup.specs.Steps.{Input, connectRequest, connectResponse, dataRequest, disconnectRequest, connectIndication, connectConfirmation, disconnectIndication, unitIndication, timeOut, idle, step}
+use Rattle.table.specs.declared.Kind.{Kind}
+use Rattle.table.specs.declared.Kind.the-variants.{Au3, Ar, Dt}
+use Rattle.table.specs.Steps.{Input, connectRequest, connectResponse, dataRequest, disconnectRequest, connectIndication, connectConfirmation, disconnectIndication, unitIndication, timeOut, idle, step}
 use Rattle.lines.specs.declared.connections.Event.{Event}
 use Rattle.lines.specs.declared.connections.Event.the-variants as event
 use Rattle.lines.specs.declared.connections.Asked.{Asked}

@@ -6,11 +6,11 @@ use lines::connections::Asked;
 use lines::connections::Event;
 use lines::digits::decode;
 use lines::words::word;
-use setup::Connection;
-use setup::Kind;
-use setup::Step;
+use table::Connection;
+use table::Kind;
+use table::Step;
 ghost use mathlib.Core.Path.{_≡_};
-ghost use Rattle.setup.specs.Steps.{Does, step};
+ghost use Rattle.table.specs.Steps.{Does, step};
 ghost use Rattle.console.specs.Connections.{atRest, bytesAt, kindNumbered, inputOf, stepped as steppedBy, brought as broughtBy, asked as askedOf, sidesBy};
 
 // A connection, and the identity of its side, which is kept when it ends.
@@ -77,16 +77,34 @@ fn step_of(side: Side, event: Event, bytes: &[u8], store: &[u8], out: &mut [u8])
     let own = side.own;
     let c = side.connection;
     match event {
-        Event::Call(peer, t, rb) => c.request(true, own, peer, t, des::store(rb), store, out),
-        Event::Indicate(t, ra) => c.indicated(true, own, t, des::store(ra), bytes, store, out),
-        Event::Confirm => c.confirmed(bytes, out),
-        Event::Bring(kind) => c.unit(kind_numbered(kind), bytes, out),
-        Event::Respond => c.respond(out),
-        Event::Say => c.send(bytes, out),
-        Event::Release(reason, sub) => c.release(reason, sub, out),
-        Event::Lost(reason) => c.disconnected(reason, &bytes[..0], out),
-        Event::End => c.disconnected(0, bytes, out),
-        Event::Late => c.time_out(out),
+        Event::Call(peer, t, rb) => setup::request(
+            c,
+            true,
+            own,
+            peer,
+            t,
+            des::store(rb),
+            store,
+            out,
+        ),
+        Event::Indicate(t, ra) => setup::indicated(
+            c,
+            true,
+            own,
+            t,
+            des::store(ra),
+            bytes,
+            store,
+            out,
+        ),
+        Event::Confirm => setup::confirmed(c, bytes, out),
+        Event::Bring(kind) => setup::unit(c, kind_numbered(kind), bytes, out),
+        Event::Respond => setup::respond(c, out),
+        Event::Say => setup::send(c, bytes, out),
+        Event::Release(reason, sub) => setup::release(c, reason, sub, out),
+        Event::Lost(reason) => setup::disconnected(c, reason, &bytes[..0], out),
+        Event::End => setup::disconnected(c, 0, bytes, out),
+        Event::Late => setup::time_out(c, out),
     }
 }
 

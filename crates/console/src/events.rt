@@ -7,13 +7,13 @@ use crate::text::line;
 use crate::text::number;
 use crate::text::text;
 use crate::text::word;
-use setup::Actions;
-use setup::Connection;
-use setup::Step;
-use setup::Stepped;
-use setup::Timer;
-use setup::ToTransport;
-use setup::ToUser;
+use table::Actions;
+use table::Connection;
+use table::Step;
+use table::Stepped;
+use table::Timer;
+use table::ToTransport;
+use table::ToUser;
 
 fn why(event: &[u8], reason: u8, sub: u8) {
     text(event);

@@ -3,7 +3,7 @@ ghost use mathlib.Core.Path.{_≡_};
 ghost use Rattle.octets.specs.Bytes.{nonzero};
 ghost use Rattle.refusal.specs.House.{gives};
 ghost use Rattle.refusal.specs.Code.{code};
-ghost use Rattle.setup.specs.Steps.{kindOf, connectRequest, connectResponse, dataRequest, disconnectRequest, connectIndication, connectConfirmation, disconnectIndication, unitIndication, timeOut, step};
+ghost use Rattle.table.specs.Steps.{kindOf, connectRequest, connectResponse, dataRequest, disconnectRequest, connectIndication, connectConfirmation, disconnectIndication, unitIndication, timeOut, step};
 ghost use Rattle.connection_buffer.specs.ConnectionBuffer.{connectionOf, kindNumber, kindNumbered, Tells};
 
 // Sa-CONNECT.request: the caller begins set-up.

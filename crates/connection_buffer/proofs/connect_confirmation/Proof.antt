@@ -1,7 +1,7 @@
 -- `connection_buffer::connect_confirmation` meets its contract.
 -- Assumes nothing.
 use lib.Dec.{lit≤}
-use Rattle.setup.specs.Steps.{connectConfirmation}
+use Rattle.table.specs.Steps.{connectConfirmation}
 use Rattle.connection_buffer.proofs.TellLaws.{told-short, tells}
 use borrow.Author.Needs.{needs}
 use Rattle.connection_buffer.proofs.connect_confirmation.Statement.{statement}

@@ -4,7 +4,7 @@ use Prim.Native.Nat.{_≤_}
 use native.Mathlib.Omega.{arith}
 use lib.ListN.{length}
 use Rattle.octets.specs.Bytes.{nonzero}
-use Rattle.setup.specs.Steps.{connectIndication}
+use Rattle.table.specs.Steps.{connectIndication}
 use Rattle.connection_buffer.proofs.TellLaws.{told-short, tells}
 use borrow.Author.Needs.{needs}
 use Rattle.connection_buffer.proofs.connect_indication.Statement.{statement}

@@ -1,7 +1,7 @@
 -- `connection_buffer::connect_response` meets its contract.
 -- Assumes nothing.
 use lib.Dec.{lit≤}
-use Rattle.setup.specs.Steps.{connectResponse}
+use Rattle.table.specs.Steps.{connectResponse}
 use Rattle.connection_buffer.proofs.TellLaws.{told-short, tells}
 use borrow.Author.Needs.{needs}
 use Rattle.connection_buffer.proofs.connect_response.Statement.{statement}

@@ -1,7 +1,7 @@
 -- `connection_buffer::data_request` meets its contract.
 -- Assumes nothing.
 use lib.Dec.{lit≤}
-use Rattle.setup.specs.Steps.{dataRequest}
+use Rattle.table.specs.Steps.{dataRequest}
 use Rattle.connection_buffer.proofs.TellLaws.{told-short, tells}
 use borrow.Author.Needs.{needs}
 use Rattle.connection_buffer.proofs.data_request.Statement.{statement}

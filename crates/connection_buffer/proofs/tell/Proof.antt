@@ -3,7 +3,7 @@
 use mathlib.Core.Path.{sym, ap, _∙_}
 use Prim.Native.Nat.{_<_, _^_}
 use Rattle.refusal.proofs.CodeLaws.{told-given, told-refused}
-use Rattle.setup.specs.Steps.{Answered, steppedAs}
+use Rattle.table.specs.Steps.{Answered, steppedAs}
 use Rattle.connection_buffer.specs.ConnectionBuffer.{unitLength, connectionAfter, eventsAfter}
 use borrow.Author.Needs.{needs}
 use Rattle.connection_buffer.proofs.tell.Statement.{statement}

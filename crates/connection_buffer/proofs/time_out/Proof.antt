@@ -1,7 +1,7 @@
 -- `connection_buffer::time_out` meets its contract.
 -- Assumes nothing.
 use lib.Dec.{lit≤}
-use Rattle.setup.specs.Steps.{timeOut}
+use Rattle.table.specs.Steps.{timeOut}
 use Rattle.connection_buffer.proofs.TellLaws.{told-short, tells}
 use borrow.Author.Needs.{needs}
 use Rattle.connection_buffer.proofs.time_out.Statement.{statement}

@@ -1,7 +1,7 @@
 -- `connection_buffer::unit_indication` meets its contract.
 -- Assumes nothing.
 use lib.Dec.{lit≤}
-use Rattle.setup.specs.Steps.{unitIndication}
+use Rattle.table.specs.Steps.{unitIndication}
 use Rattle.connection_buffer.specs.ConnectionBuffer.{kindNumbered}
 use Rattle.connection_buffer.proofs.TellLaws.{named, told-short, tells}
 use borrow.Author.Needs.{needs}

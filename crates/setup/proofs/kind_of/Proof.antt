@@ -6,8 +6,8 @@ use Prim.Native.Nat.{ℕ}
 use borrow.Author.Needs.{needs}
 use borrow.Author.Tests.{ne-eqb}
 use lib.Dec.{eqb}
-use Rattle.setup.specs.declared.Kind.the-variants.{Au3, Ar, Dt}
-use Rattle.setup.proofs.UnitLaws.{empty-is-dt, kind-by}
+use Rattle.table.specs.declared.Kind.the-variants.{Au3, Ar, Dt}
+use Rattle.table.proofs.UnitLaws.{empty-is-dt, kind-by}
 use Rattle.setup.proofs.kind_of.Statement.{statement}
 use Rattle.setup.proofs.kind_of.Tie as tie
 

@@ -4,10 +4,10 @@ use mathlib.Core.Path.{_≡_, refl, sym, ap, _∙_, subst⁻¹}
 use mathlib.Core.Bool.{true}
 use mathlib.Core.List.{List}
 use Prim.Native.Nat.{ℕ}
-use Rattle.setup.specs.declared.Connection.{Connection}
-use Rattle.setup.specs.declared.Kind.{Kind}
-use Rattle.setup.specs.declared.Stepped.{Stepped}
-use Rattle.setup.specs.Steps.{Input, connectRequest, connectIndication, unitIndication, step, Does}
+use Rattle.table.specs.declared.Connection.{Connection}
+use Rattle.table.specs.declared.Kind.{Kind}
+use Rattle.table.specs.declared.Stepped.{Stepped}
+use Rattle.table.specs.Steps.{Input, connectRequest, connectIndication, unitIndication, step, Does}
 use Rattle.lines.specs.declared.connections.Event.{Event}
 use Rattle.lines.specs.declared.connections.Event.the-variants as event
 use Rattle.console.specs.Connections.{inputOf}

@@ -1,7 +1,7 @@
 -- `console::connections::stepped` meets its contract.
 -- Assumes nothing.
 use mathlib.Core.Path.{ap}
-use Rattle.setup.specs.declared.Connection.{Connection}
+use Rattle.table.specs.declared.Connection.{Connection}
 use Rattle.console.specs.declared.connections.Side.{Side}
 use borrow.Author.Needs.{needs}
 use Rattle.console.proofs.connections.stepped.Statement.{statement}
