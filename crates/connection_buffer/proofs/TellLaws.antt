@@ -11,8 +11,8 @@ use Rattle.refusal.specs.Code.{code}
 use Rattle.table.specs.declared.Connection.{Connection}
 use Rattle.table.specs.declared.Kind.{Kind}
 use Rattle.table.specs.declared.Stepped.{Stepped}
-use Rattle.table.specs.Steps.{Input, unitIndication, Answered, step, steppedAs, Does}
-use Rattle.connection_buffer.specs.ConnectionBuffer.{connectionOf, kindNumbered, unitLength, Short, connectionAfter, eventsAfter, Tells}
+use Rattle.table.specs.Steps.{Input, unitIndication, Answered, step, steppedAs, Does, kindNumbered}
+use Rattle.connection_buffer.specs.ConnectionBuffer.{connectionOf, unitLength, Short, connectionAfter, eventsAfter, Tells}
 use Rattle.connection_buffer.proofs.LengthLaws.{brought, step-told}
 
 -- the kind that a number names

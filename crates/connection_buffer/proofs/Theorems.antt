@@ -15,9 +15,9 @@ use Rattle.table.specs.declared.Kind.{Kind}
 use Rattle.table.specs.declared.Kind.the-variants.{Au3, Ar, Dt}
 use Rattle.table.specs.declared.ToUser.{ToUser}
 use Rattle.table.specs.declared.ToUser.the-variants.{Nothing, ConnectIndication, ConnectConfirmation, DataIndication, DisconnectIndication, ReportIndication}
-use Rattle.table.specs.Steps.{Answered, done, refused, step}
+use Rattle.table.specs.Steps.{Answered, done, refused, step, kindNumbered}
 use Rattle.table.proofs.Theorems.{refusal-leaves}
-use Rattle.connection_buffer.specs.ConnectionBuffer.{head, connectionBytes, connectionOf, eventsWith, transportNumber, timerNumber, kindNumber, kindNumbered, connectionAfter, eventsAfter}
+use Rattle.connection_buffer.specs.ConnectionBuffer.{head, connectionBytes, connectionOf, eventsWith, transportNumber, timerNumber, kindNumber, connectionAfter, eventsAfter}
 use Rattle.connection_buffer.specs.Claims.{Fitting, ReadAsWritten, ZerosAreIdle, ConnectionsChain, RefusalWritesNowhere, EventsAgree, KindsAreNumbered}
 use Rattle.connection_buffer.proofs.LengthLaws.{data-most}
 use Rattle.connection_buffer.proofs.FitLaws.{connectionOf-fits, step-fits}

@@ -10,8 +10,8 @@ use Rattle.table.specs.declared.Connection.{Connection}
 use Rattle.table.specs.declared.Kind.{Kind}
 use Rattle.table.specs.declared.ToUser.the-variants.{DataIndication}
 use Rattle.table.specs.declared.Actions.{Actions}
-use Rattle.table.specs.Steps.{idle, Input, connectRequest, connectResponse, dataRequest, disconnectRequest, connectIndication, connectConfirmation, disconnectIndication, unitIndication, timeOut, done, refused, step}
-use Rattle.connection_buffer.specs.ConnectionBuffer.{connectionBytes, connectionOf, kindNumber, kindNumbered, Tells}
+use Rattle.table.specs.Steps.{idle, Input, connectRequest, connectResponse, dataRequest, disconnectRequest, connectIndication, connectConfirmation, disconnectIndication, unitIndication, timeOut, done, refused, step, kindNumbered}
+use Rattle.connection_buffer.specs.ConnectionBuffer.{connectionBytes, connectionOf, kindNumber, Tells}
 
 -- ---- a connection as bytes
 

@@ -1,10 +1,8 @@
 -- A connection and its events as a host keeps them: 64 bytes, all zero in the idle connection, and 8 bytes.
 -- Assumes nothing.
 use mathlib.Core.Path.{_≡_}
-use mathlib.Core.Bool.{cond}
 use mathlib.Core.List.{List, [], _∷_, _++_}
 use Prim.Native.Nat.{ℕ, _<_, _^_}
-use lib.Dec.{eqb}
 use lib.IntN.{ℤ}
 use lib.ListN.{getD, replicate}
 use Rattle.octets.specs.Bytes.{get32, be16, be32, part, nonzero}
@@ -76,15 +74,12 @@ eventsWith (ReportIndication reason sub) transport timer state = 5 ∷ transport
 abbrev pub eventBytes : Actions → ℕ → List ℕ
 eventBytes a state = eventsWith (a .user) (transportNumber (a .transport)) (timerNumber (a .timer)) state
 
--- ---- the kinds of unit: any number but 1 and 2 is taken as DT
+-- ---- the kinds of unit, as `kindNumbered` reads them
 
 abbrev pub kindNumber : Kind → ℕ
 kindNumber Au3 = 1
 kindNumber Ar = 2
 kindNumber Dt = 3
-
-abbrev pub kindNumbered : ℕ → Kind
-kindNumbered n = cond (eqb n 1) Au3 (cond (eqb n 2) Ar Dt)
 
 -- ---- what C is told
 

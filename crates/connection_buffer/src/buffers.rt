@@ -4,7 +4,7 @@ ghost use mathlib.Core.List.{_++_};
 ghost use Prim.Native.Nat.{_+_, _≤_};
 ghost use lib.ListN.{replicate};
 ghost use Rattle.octets.specs.Bytes.{part};
-ghost use Rattle.connection_buffer.specs.ConnectionBuffer.{head, connectionBytes, connectionOf, transportNumber, timerNumber, eventsWith, eventBytes, kindNumber, kindNumbered};
+ghost use Rattle.connection_buffer.specs.ConnectionBuffer.{head, connectionBytes, connectionOf, transportNumber, timerNumber, eventsWith, eventBytes, kindNumber};
 use table::Actions;
 use table::Connection;
 use table::Kind;
@@ -152,18 +152,6 @@ pub fn events_of(actions: Actions, state: u8) -> [u8; 8]
 }
 
 // ---- the kinds of unit
-
-pub fn kind_numbered(n: u8) -> Kind
-    ensures { λ r. ⌜ r ≡ kindNumbered n ⌝ }
-{
-    if n == 1 {
-        return Kind::Au3;
-    }
-    if n == 2 {
-        return Kind::Ar;
-    }
-    Kind::Dt
-}
 
 pub fn kind_number(kind: Kind) -> u8
     ensures { λ r. ⌜ r ≡ kindNumber kind ⌝ }

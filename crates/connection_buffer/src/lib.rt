@@ -3,7 +3,6 @@
 use crate::buffers::bytes_of;
 use crate::buffers::events_of;
 use crate::buffers::kind_number;
-use crate::buffers::kind_numbered;
 use crate::buffers::load;
 use refusal::refusal_code;
 use setup::kind_of;
@@ -13,8 +12,8 @@ ghost use mathlib.Core.Path.{_≡_};
 ghost use Rattle.octets.specs.Bytes.{nonzero};
 ghost use Rattle.refusal.specs.House.{gives};
 ghost use Rattle.refusal.specs.Code.{code};
-ghost use Rattle.table.specs.Steps.{kindOf, connectRequest, connectResponse, dataRequest, disconnectRequest, connectIndication, connectConfirmation, disconnectIndication, unitIndication, timeOut, step, steppedAs};
-ghost use Rattle.connection_buffer.specs.ConnectionBuffer.{connectionOf, kindNumber, kindNumbered, unitLength, Short, connectionAfter, eventsAfter, Tells};
+ghost use Rattle.table.specs.Steps.{kindOf, connectRequest, connectResponse, dataRequest, disconnectRequest, connectIndication, connectConfirmation, disconnectIndication, unitIndication, timeOut, step, steppedAs, kindNumbered};
+ghost use Rattle.connection_buffer.specs.ConnectionBuffer.{connectionOf, kindNumber, unitLength, Short, connectionAfter, eventsAfter, Tells};
 
 mod buffers;
 
@@ -157,7 +156,7 @@ pub fn unit_indication(
     ensures { λ r. ⌜ Tells (step (unitIndication (kindNumbered kind) (now (unit .entry))) (connectionOf (now (connection .entry))) (now (out .entry))) r (now (connection .entry)) (now (connection .exit)) (now (events .entry)) (now (events .exit)) (now (out .exit)) ⌝ }
 {
     let before = load(connection);
-    let taken = setup::unit(before, kind_numbered(kind), unit, out);
+    let taken = setup::unit(before, setup::kind_numbered(kind), unit, out);
     tell(taken, connection, events)
 }
 

@@ -1,13 +1,10 @@
 -- The two connections of the bench, and what a line asks of one of them.
 -- Assumes nothing.
-use mathlib.Core.Bool.{Bool, true, false, cond}
+use mathlib.Core.Bool.{Bool, true, false}
 use mathlib.Core.List.{List, []}
 use Prim.Native.Nat.{ℕ}
-use lib.Dec.{eqb}
 use Rattle.des.specs.Bits.{bits, bytesOfBits}
-use Rattle.table.specs.declared.Kind.{Kind}
-use Rattle.table.specs.declared.Kind.the-variants.{Au3, Ar, Dt}
-use Rattle.table.specs.Steps.{Input, connectRequest, connectResponse, dataRequest, disconnectRequest, connectIndication, connectConfirmation, disconnectIndication, unitIndication, timeOut, idle, step}
+use Rattle.table.specs.Steps.{Input, connectRequest, connectResponse, dataRequest, disconnectRequest, connectIndication, connectConfirmation, disconnectIndication, unitIndication, timeOut, idle, step, kindNumbered}
 use Rattle.lines.specs.declared.connections.Event.{Event}
 use Rattle.lines.specs.declared.connections.Event.the-variants as event
 use Rattle.lines.specs.declared.connections.Asked.{Asked}
@@ -35,9 +32,6 @@ bytesAt event.Late = 5
 
 abbrev pub random : ℕ → List ℕ
 random x = bytesOfBits 8 (bits 64 x)
-
-abbrev pub kindNumbered : ℕ → Kind
-kindNumbered n = cond (eqb n 1) Au3 (cond (eqb n 2) Ar Dt)
 
 -- an event of set-up: of a side with this own identity, with these bytes, over this store; the application type is acceptable
 abbrev pub inputOf : Event → ℕ → List ℕ → List ℕ → Input

@@ -7,11 +7,10 @@ use lines::connections::Event;
 use lines::digits::decode;
 use lines::words::word;
 use table::Connection;
-use table::Kind;
 use table::Step;
 ghost use mathlib.Core.Path.{_≡_};
 ghost use Rattle.table.specs.Steps.{Does, step};
-ghost use Rattle.console.specs.Connections.{atRest, bytesAt, kindNumbered, inputOf, stepped as steppedBy, brought as broughtBy, asked as askedOf, sidesBy};
+ghost use Rattle.console.specs.Connections.{atRest, bytesAt, inputOf, stepped as steppedBy, brought as broughtBy, asked as askedOf, sidesBy};
 
 // A connection, and the identity of its side, which is kept when it ends.
 pub struct Side {
@@ -59,18 +58,6 @@ fn bytes_at(event: Event) -> usize
     }
 }
 
-fn kind_numbered(n: u8) -> Kind
-    ensures { λ r. ⌜ r ≡ kindNumbered n ⌝ }
-{
-    if n == 1 {
-        return Kind::Au3;
-    }
-    if n == 2 {
-        return Kind::Ar;
-    }
-    Kind::Dt
-}
-
 fn step_of(side: Side, event: Event, bytes: &[u8], store: &[u8], out: &mut [u8]) -> Step
     ensures { λ r. ⌜ Does (step (inputOf event (side .own) (now (bytes .entry)) (now (store .entry))) (side .connection) (now (out .entry))) (r .answer) (r .connection) (now (out .exit)) ⌝ }
 {
@@ -98,7 +85,7 @@ fn step_of(side: Side, event: Event, bytes: &[u8], store: &[u8], out: &mut [u8])
             out,
         ),
         Event::Confirm => setup::confirmed(c, bytes, out),
-        Event::Bring(kind) => setup::unit(c, kind_numbered(kind), bytes, out),
+        Event::Bring(kind) => setup::unit(c, setup::kind_numbered(kind), bytes, out),
         Event::Respond => setup::respond(c, out),
         Event::Say => setup::send(c, bytes, out),
         Event::Release(reason, sub) => setup::release(c, reason, sub, out),

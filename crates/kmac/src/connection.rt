@@ -3,8 +3,8 @@ ghost use mathlib.Core.Path.{_≡_};
 ghost use Rattle.octets.specs.Bytes.{nonzero};
 ghost use Rattle.refusal.specs.House.{gives};
 ghost use Rattle.refusal.specs.Code.{code};
-ghost use Rattle.table.specs.Steps.{kindOf, connectRequest, connectResponse, dataRequest, disconnectRequest, connectIndication, connectConfirmation, disconnectIndication, unitIndication, timeOut, step};
-ghost use Rattle.connection_buffer.specs.ConnectionBuffer.{connectionOf, kindNumber, kindNumbered, Tells};
+ghost use Rattle.table.specs.Steps.{kindOf, connectRequest, connectResponse, dataRequest, disconnectRequest, connectIndication, connectConfirmation, disconnectIndication, unitIndication, timeOut, step, kindNumbered};
+ghost use Rattle.connection_buffer.specs.ConnectionBuffer.{connectionOf, kindNumber, Tells};
 
 // Sa-CONNECT.request: the caller begins set-up.
 #[no_mangle]

@@ -1,6 +1,6 @@
 // Connection set-up (SUBSET-037-2, 6.2.6): one connection, as caller or called, on a KMAC of the store. Each call is an event of Table 20, and each arm of its match on the state a square; `unit` first asks for the state that waits for the unit.
 ghost use mathlib.Core.Path.{_≡_};
-ghost use Rattle.table.specs.Steps.{Does, step, connectRequest, connectResponse, dataRequest, disconnectRequest, connectIndication, connectConfirmation, disconnectIndication, unitIndication, timeOut, handedUp, kindOf};
+ghost use Rattle.table.specs.Steps.{Does, step, connectRequest, connectResponse, dataRequest, disconnectRequest, connectIndication, connectConfirmation, disconnectIndication, unitIndication, timeOut, handedUp, kindOf, kindNumbered};
 use authentication::DATA_MOST;
 use octets::between;
 use refusal::Refusal;
@@ -235,6 +235,19 @@ pub fn kind_of(unit: &[u8]) -> Kind
         return Kind::Au3;
     }
     if mti == units::header::AR {
+        return Kind::Ar;
+    }
+    Kind::Dt
+}
+
+// And by the number that a host gives it.
+pub fn kind_numbered(n: u8) -> Kind
+    ensures { λ r. ⌜ r ≡ kindNumbered n ⌝ }
+{
+    if n == 1 {
+        return Kind::Au3;
+    }
+    if n == 2 {
         return Kind::Ar;
     }
     Kind::Dt

@@ -103,6 +103,10 @@ judgedUnit Dt s c unit =
 abbrev pub kindOf : List ℕ → Kind
 kindOf unit = cond (eqb (mti unit) 3) Au3 (cond (eqb (mti unit) 9) Ar Dt)
 
+-- and by the number that a host gives: any number but 1 and 2 is taken as DT
+abbrev pub kindNumbered : ℕ → Kind
+kindNumbered n = cond (eqb n 1) Au3 (cond (eqb n 2) Ar Dt)
+
 -- ---- the search where set-up starts: H1, H12, H11; H11 also where a type is over 7
 
 abbrev pub ifTypes : Bool → Answer → Answer

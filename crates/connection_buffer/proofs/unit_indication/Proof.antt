@@ -2,7 +2,7 @@
 -- Assumes nothing.
 use lib.Dec.{lit≤}
 use Rattle.table.specs.Steps.{unitIndication}
-use Rattle.connection_buffer.specs.ConnectionBuffer.{kindNumbered}
+use Rattle.table.specs.Steps.{kindNumbered}
 use Rattle.connection_buffer.proofs.TellLaws.{named, told-short, tells}
 use borrow.Author.Needs.{needs}
 use Rattle.connection_buffer.proofs.unit_indication.Statement.{statement}

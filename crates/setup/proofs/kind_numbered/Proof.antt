@@ -1,10 +1,10 @@
--- `connection_buffer::buffers::kind_numbered` meets its contract.
+-- `setup::kind_numbered` meets its contract.
 -- Assumes nothing.
 use mathlib.Core.Path.{sym, ap}
 use borrow.Author.Tests.{ne-eqb}
-use Rattle.connection_buffer.specs.ConnectionBuffer.{kindNumbered}
-use Rattle.connection_buffer.proofs.buffers.kind_numbered.Statement.{statement}
-use Rattle.connection_buffer.proofs.buffers.kind_numbered.Tie as tie
+use Rattle.table.specs.Steps.{kindNumbered}
+use Rattle.setup.proofs.kind_numbered.Statement.{statement}
+use Rattle.setup.proofs.kind_numbered.Tie as tie
 
 returns : tie.Need-returns
 returns c = sym (ap kindNumbered (c .if1 .taken))
