@@ -16,7 +16,7 @@ use Rattle.des.specs.Des.{permute, swap, shiftBoth, shifted, subkey}
 use Rattle.des.specs.Words.{Holds, upFrom}
 use Rattle.fast_des.specs.Joined.{zeros, placed, pc2Groups}
 use Rattle.des.proofs.BitLaws.{length-bits}
-use Rattle.des.proofs.BlockLaws.{Small, small-bits, length-permute, length-xor}
+use Rattle.des.proofs.BlockLaws.{small-bits, length-permute, length-xor}
 use Rattle.des.proofs.MapLaws.{shift-map}
 use Rattle.des.proofs.CipherLaws.{up-is}
 use Rattle.des.proofs.WordLaws.{recast, xored, group-bits}

@@ -1,14 +1,11 @@
 -- `fast_des::schedule_by` meets its contract: each key by the shifts before it.
 -- Assumes nothing.
 use mathlib.Core.Path.{_≡_, refl, ap, _∙_}
-use mathlib.Core.List.{List, [], _∷_}
-use Prim.Native.Nat.{ℕ, suc, _+_, _<_}
-use lib.ListN.{getD}
+use mathlib.Core.List.{[], _∷_}
 use borrow.Author.Count.{below-none, below-more}
 use Rattle.des.specs.Bits.{bits}
-use Rattle.des.specs.Tables.{pc1, pc2, shifts}
-use Rattle.des.specs.Des.{permute, swap, shiftBoth, subkey}
-use Rattle.des.specs.Words.{Holds, upFrom}
+use Rattle.des.specs.Tables.{pc1, shifts}
+use Rattle.des.specs.Des.{permute, swap, shiftBoth}
 use Rattle.fast_des.proofs.ChoiceLaws.{along, order, key-along}
 use Rattle.fast_des.proofs.schedule_by.Statement.{statement}
 use Rattle.fast_des.proofs.schedule_by.Tie as tie

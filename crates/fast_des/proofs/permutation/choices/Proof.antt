@@ -1,7 +1,7 @@
 -- `fast_des::permutation::choices` meets its contract. The loop's invariant: the four words hold what is chosen of the first i groups of C and of D.
 -- Assumes nothing.
 use mathlib.Core.Path.{_≡_, refl}
-use Prim.Native.Nat.{ℕ, _+_, _-_, _*_, _/_, _^_, _≤_, _<_}
+use Prim.Native.Nat.{ℕ, _-_, _*_, _/_, _^_, _≤_, _<_}
 use native.Mathlib.Omega.{arith}
 use lib.Bits.{bitAnd, mask-lt}
 use Rattle.des.specs.Bits.{bits}
