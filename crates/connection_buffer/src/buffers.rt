@@ -5,8 +5,11 @@ ghost use Prim.Native.Nat.{_+_, _≤_};
 ghost use lib.ListN.{replicate};
 ghost use Rattle.octets.specs.Bytes.{part};
 ghost use Rattle.connection_buffer.specs.ConnectionBuffer.{head, connectionBytes, connectionOf, transportNumber, timerNumber, eventsWith, eventBytes, kindNumber};
+use table::AR_NUMBER;
+use table::AU3_NUMBER;
 use table::Actions;
 use table::Connection;
+use table::DT_NUMBER;
 use table::Kind;
 use table::Timer;
 use table::ToTransport;
@@ -157,8 +160,8 @@ pub fn kind_number(kind: Kind) -> u8
     ensures { λ r. ⌜ r ≡ kindNumber kind ⌝ }
 {
     match kind {
-        Kind::Au3 => 1,
-        Kind::Ar => 2,
-        Kind::Dt => 3,
+        Kind::Au3 => AU3_NUMBER,
+        Kind::Ar => AR_NUMBER,
+        Kind::Dt => DT_NUMBER,
     }
 }

@@ -58,7 +58,7 @@ chosen-xor n a b ha hb =
 
 -- ---- a shift by whole groups moves a group
 
--- four names, and what they name
+-- four numbers that stand for any four bits: where a shift carries them, it carries every group of four
 names : List ℕ
 names = 1 ∷ 2 ∷ 3 ∷ 4 ∷ []
 
@@ -223,23 +223,23 @@ chosen-end n x e h = recast h (ap (λ (l : List ℕ). permute pc2 (shiftBoth n l
 -- ---- the keys of the iterations
 
 -- the shifts of the first n iterations, the last first
-unfoldable pub order : ℕ → List ℕ
-order zero = []
-order (suc n) = getD shifts n 0 ∷ order n
+unfoldable pub shiftsBefore : ℕ → List ℕ
+shiftsBefore zero = []
+shiftsBefore (suc n) = getD shifts n 0 ∷ shiftsBefore n
 
-shifted-along : (key : List ℕ) (n : ℕ) → shifted key n ≡ along (order n) (permute pc1 key)
-unfolding shifted along order
+shifted-along : (key : List ℕ) (n : ℕ) → shifted key n ≡ along (shiftsBefore n) (permute pc1 key)
+unfolding shifted along shiftsBefore
 shifted-along key zero = refl
 shifted-along key (suc n) = ap (shiftBoth (getD shifts n 0)) (shifted-along key n)
 
 -- the key of iteration n, m shifts on from a word that lies the shifts ns behind permuted choice 1: together they come to those of the first n + 1 iterations
 pub key-along : (key ns : List ℕ) (x : ℕ) → bits 56 x ≡ along ns (permute pc1 key) → (m n q : ℕ) → Holds 48 q (permute pc2 (shiftBoth m (bits 56 x)))
-    → along (m ∷ ns) (upFrom 1 56) ≡ along (order (suc n)) (upFrom 1 56) → bits 48 q ≡ subkey key n
+    → along (m ∷ ns) (upFrom 1 56) ≡ along (shiftsBefore (suc n)) (upFrom 1 56) → bits 48 q ≡ subkey key n
 unfolding subkey pc1 along
 key-along key ns x e m n q h t =
     let cd = permute pc1 key in
     let long = length-permute pc1 key in
     h .same
     ∙ ap (permute pc2)
-    (ap (shiftBoth m) e ∙ along-table (m ∷ ns) cd long ∙ ap (λ (l : List ℕ). permute l cd) t ∙ sym (along-table (order (suc n)) cd long)
+    (ap (shiftBoth m) e ∙ along-table (m ∷ ns) cd long ∙ ap (λ (l : List ℕ). permute l cd) t ∙ sym (along-table (shiftsBefore (suc n)) cd long)
     ∙ sym (shifted-along key (suc n)))

@@ -49,34 +49,34 @@ pub fn groups_table() -> [u64; 224]
     PC2_GROUPS
 }
 
-// The keys of the sixteen iterations, by a lent table. They lie 1, 2, 4, 6, 8, 10, 12, 14, 15, 17, 19, 21, 23, 25, 27 and 28 shifts behind permuted choice 1: from each of the four words the keys 0, 4, 8 and 12 shifts on are taken together.
+// The keys of the sixteen iterations, by a lent table. They lie 1, 2, 4, 6, 8, 10, 12, 14, 15, 17, 19, 21, 23, 25, 27 and 28 shifts behind permuted choice 1. From each of the words 0, 2, 15 and 17 shifts behind it, the keys 0, 4, 8 and 12 shifts on are taken together; 28 shifts bring C and D round, so 29 are one.
 pub fn schedule_by(key: u64, groups: &[u64]) -> [u64; 16]
     requires { ⌜ now groups ≡ pc2Groups ⌝ }
     ensures { λ r. ⌜ Keys (bits 64 key) r ⌝ }
 {
     let cd = choice1(key);
-    let half = shift_15(cd);
-    let a = choices(cd, groups);
-    let b = choices(shift_2(cd), groups);
-    let c = choices(half, groups);
-    let d = choices(shift_2(half), groups);
+    let cd_15 = shift_15(cd);
+    let from_0 = choices(cd, groups);
+    let from_2 = choices(shift_2(cd), groups);
+    let from_15 = choices(cd_15, groups);
+    let from_17 = choices(shift_2(cd_15), groups);
     [
-        d.twelve,
-        b.none,
-        a.four,
-        b.four,
-        a.eight,
-        b.eight,
-        a.twelve,
-        b.twelve,
-        c.none,
-        d.none,
-        c.four,
-        d.four,
-        c.eight,
-        d.eight,
-        c.twelve,
-        a.none,
+        from_17.twelve,
+        from_2.none,
+        from_0.four,
+        from_2.four,
+        from_0.eight,
+        from_2.eight,
+        from_0.twelve,
+        from_2.twelve,
+        from_15.none,
+        from_17.none,
+        from_15.four,
+        from_17.four,
+        from_15.eight,
+        from_17.eight,
+        from_15.twelve,
+        from_0.none,
     ]
 }
 

@@ -1,4 +1,4 @@
-// Connection set-up (SUBSET-037-2, 6.2.6): one connection, as caller or called, on a KMAC of the store. Each call is an event of Table 20, and each arm of its match on the state a square; `unit` first asks for the state that waits for the unit.
+// Connection set-up (SUBSET-037-2, 6.2.6): one connection, as caller or called, on a KMAC of the store. Each call that hands back a step is an event of Table 20, with a match on the state of which each arm is a square; `unit` matches on the kind, and its squares ask for the state.
 ghost use mathlib.Core.Path.{_≡_};
 ghost use Rattle.table.specs.Steps.{Does, step, connectRequest, connectResponse, dataRequest, disconnectRequest, connectIndication, connectConfirmation, disconnectIndication, unitIndication, timeOut, handedUp, kindOf, kindNumbered};
 use authentication::DATA_MOST;
@@ -14,6 +14,8 @@ use squares::received::take_au3;
 use squares::received::take_dt;
 use squares::user::lost;
 use squares::user::send_dt;
+use table::AR_NUMBER;
+use table::AU3_NUMBER;
 use table::Connection;
 use table::Kind;
 use table::State;
@@ -223,6 +225,8 @@ pub fn time_out(c: Connection, out: &mut [u8]) -> Step
     }
 }
 
+// ---- which unit
+
 // Which unit a T-DATA.indication brought, by its MTI, for a host that has no other way to know; anything else, and nothing at all, is taken as a DT.
 pub fn kind_of(unit: &[u8]) -> Kind
     ensures { λ r. ⌜ r ≡ kindOf (now (unit .entry)) ⌝ }
@@ -240,14 +244,14 @@ pub fn kind_of(unit: &[u8]) -> Kind
     Kind::Dt
 }
 
-// And by the number that a host gives it.
+// The same by the number that a host gives; any other is taken as a DT.
 pub fn kind_numbered(n: u8) -> Kind
     ensures { λ r. ⌜ r ≡ kindNumbered n ⌝ }
 {
-    if n == 1 {
+    if n == AU3_NUMBER {
         return Kind::Au3;
     }
-    if n == 2 {
+    if n == AR_NUMBER {
         return Kind::Ar;
     }
     Kind::Dt

@@ -1,4 +1,4 @@
-// The filled squares of Table 20, each a function: the caller's, the called side's, those of a unit that T-DATA.indication brings, and of user data.
+// The squares of Table 20 that make or judge a unit: the caller's, the called side's, those of a unit that T-DATA.indication brings, awaited or not, and of user data.
 pub mod called;
 pub mod calling;
 pub mod received;

@@ -42,7 +42,7 @@ use units::reason::REPLAY;
 use units::reason::SEQUENCE;
 use units::reason::UNKNOWN;
 
-// The refusals of check that tell one square from another.
+// H8 is Pre5. Of Pre6, H9 has reasons of its own, and H7 has one.
 const MAC_DIFFERS: u8 = 8;
 
 const UNIT_CONTENTS: u8 = 9;

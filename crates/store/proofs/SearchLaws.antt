@@ -14,7 +14,7 @@ use borrow.Author.Tests.{eqb-true, lt-ltb, le-ltb, ltb-true}
 use Rattle.octets.specs.Bytes.{Bytes}
 use Rattle.octets.proofs.PartLaws.{part-length}
 use Rattle.store.specs.Layout.{total, Bounded, edition1, edition2, editions, pickEdition, editionIn, editionOf}
-use Rattle.store.specs.Store.{Entry, HasRecord, kmacAt, entries, entriesFrom, entryAt, keyCount, first, count, peerCount, sumBefore, sound}
+use Rattle.store.specs.Store.{Entry, HasPlace, kmacAt, entries, entriesFrom, entryAt, keyCount, first, count, peerCount, sumBefore, sound}
 use Rattle.store.specs.Search.{pickNumber, placeWhere, chosen, Finding, found, unfound, orElse, placed, findIn, find, keyOf, key}
 use Rattle.store.specs.declared.Choice.{Choice}
 use Rattle.store.specs.declared.Limits.{Limits}
@@ -158,12 +158,12 @@ module _ (L : Limits) (s : List ℕ) (peer t p until : ℕ) where
       soundly false h q = not-found 12 p until q
 
 -- the KMAC of a record that stands in the store is whole
-pub kmac-long : (s : List ℕ) (p : ℕ) → HasRecord s p → length (kmacAt s (p - 1)) ≡ 24
+pub kmac-long : (s : List ℕ) (p : ℕ) → HasPlace s p → length (kmacAt s (p - 1)) ≡ 24
 kmac-long s p h = part-length s (12 + 44 * (p - 1) + 8) 24 (omega (arith, h .from-one, h .inside))
 
 -- the place that find gives lies in the store, and the key stands there
 pub record Placed (s : List ℕ) (peer t p : ℕ) : Type 0 where
-  pub has-record : HasRecord s p
+  pub has-record : HasPlace s p
   pub key-is : key s peer t ≡ kmacAt s (p - 1)
 
 module _ (s : List ℕ) (peer t p until : ℕ) where

@@ -15,7 +15,7 @@ use Rattle.store.specs.declared.Edition.the-variants.{Known}
 use Rattle.store.specs.declared.Found.{Found}
 use Rattle.store.specs.declared.Emptied.{Emptied}
 use Rattle.store.specs.Layout.{Bounded, total, edition1, edition2, editionOf}
-use Rattle.store.specs.Store.{Entry, HasRecord, kmacAt, encode, entries, sound}
+use Rattle.store.specs.Store.{Entry, HasPlace, kmacAt, encode, entries, sound}
 use Rattle.store.specs.Search.{fits, serves, Finding, found, unfound, find, key, foundAs, emptiedAs, emptyIn, emptied}
 use Rattle.store.specs.Request.{Request, after, work}
 use Rattle.store.specs.WellFormed.{nobody, WellFormed, Readable, AllReadable}
@@ -97,9 +97,9 @@ pub record LatestTaken : Type 0 where
   pub one-found : (L : Limits) (s : List ℕ) (peer t : ℕ) → editionOf (length s) ≡ Known L → sound L s ≡ true → (j : ℕ) → j < length (entries L s)
       → serves peer t (getD (entries L s) j nobody) ≡ true → IsFound s peer t
 
--- where find gives a place, a record stands there, and `key` is its KMAC, which is whole
+-- where find gives a place, it lies in the store, and `key` is the KMAC there, which is whole
 pub record WholeKey : Type 0 where
-  pub inside : (s : List ℕ) (peer t place end : ℕ) → find s peer t ≡ found place end → HasRecord s place
+  pub inside : (s : List ℕ) (peer t place end : ℕ) → find s peer t ≡ found place end → HasPlace s place
   pub there : (s : List ℕ) (peer t place end : ℕ) → find s peer t ≡ found place end → key s peer t ≡ kmacAt s (place - 1)
   pub long : (s : List ℕ) (peer t place end : ℕ) → find s peer t ≡ found place end → length (key s peer t) ≡ 24
 

@@ -63,8 +63,8 @@ first s i = get16 s (recordAt i + 40)
 abbrev pub count : List ℕ → ℕ → ℕ
 count s i = get16 s (recordAt i + 42)
 
--- a buffer that has a record at this place, the first being 1
-pub record HasRecord (s : List ℕ) (place : ℕ) : Type 0 where
+-- the bytes of this place lie in the buffer; the first place is 1
+pub record HasPlace (s : List ℕ) (place : ℕ) : Type 0 where
   pub from-one : 0 < place
   pub inside : recordAt place ≤ length s
 

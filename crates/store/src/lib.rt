@@ -16,7 +16,7 @@ ghost use mathlib.Core.List.{[]};
 ghost use Prim.Native.Nat.{_+_, _*_, _-_, _<_};
 ghost use lib.ListN.{length};
 ghost use Rattle.store.specs.Layout.{total, Bounded, editionOf};
-ghost use Rattle.store.specs.Store.{HasRecord, kmacAt, encode, sound};
+ghost use Rattle.store.specs.Store.{HasPlace, kmacAt, encode, sound};
 ghost use Rattle.store.specs.Search.{foundAs, findIn, find, key, emptiedAs, emptyIn, emptied};
 
 // The number and the limits of an edition of the store.
@@ -87,7 +87,7 @@ pub fn find(s: &[u8], peer: u32, t: u32) -> Found
 
 // The KMAC of the record at a place that find gave, as a part of the store: 24 bytes.
 pub fn kmac_at(s: &[u8], place: usize) -> &[u8]
-    requires { ⌜ HasRecord (now s) place ⌝ }
+    requires { ⌜ HasPlace (now s) place ⌝ }
     ensures { λ r. ⌜ (now r ≡ kmacAt (now (s .entry)) (place - 1)) × (length (now r) ≡ 24) ⌝ }
 {
     let start = KEYS_AT + RECORD * (place - 1) + 8;

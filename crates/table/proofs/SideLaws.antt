@@ -14,7 +14,7 @@ use Rattle.octets.proofs.PartLaws.{part-whole}
 use Rattle.octets.proofs.BoolLaws.{clash, and-false-left}
 use Rattle.refusal.specs.declared.Refusal.{Refusal}
 use Rattle.refusal.specs.House.{Answer, house, gives, asks, unlessRefused, houseNumber}
-use Rattle.store.specs.Store.{HasRecord, kmacAt}
+use Rattle.store.specs.Store.{HasPlace, kmacAt}
 use Rattle.store.specs.Search.{Finding, placeIn}
 use Rattle.store.specs.Search as held
 use Rattle.store.proofs.Theorems.{whole-key}
@@ -89,9 +89,9 @@ module _ (store : List ℕ) (own peer t : ℕ) where
   unfolding found
   place-found n e = placed-by (held.find store peer t) (leb (typeOf own) 7 && leb (typeOf peer) 7) n e
 
-  -- where the record stands, whose KMAC the key is
-  pub record-there : (n : ℕ) → found store own peer t ≡ gives n → HasRecord store n
-  record-there n e = let p = place-found n e in whole-key .inside store peer t n (p .0) (p .1)
+  -- it lies in the store, and the key is the KMAC there
+  pub place-inside : (n : ℕ) → found store own peer t ≡ gives n → HasPlace store n
+  place-inside n e = let p = place-found n e in whole-key .inside store peer t n (p .0) (p .1)
 
   pub key-there : (n : ℕ) → found store own peer t ≡ gives n → held.key store peer t ≡ kmacAt store (n - 1)
   key-there n e = let p = place-found n e in whole-key .there store peer t n (p .0) (p .1)

@@ -1,4 +1,4 @@
--- What the parts of the calls promise.
+-- What `table::search` and the received units of `squares` promise.
 -- Assumes nothing.
 use mathlib.Core.List.{List}
 use Prim.Native.Nat.{ℕ}

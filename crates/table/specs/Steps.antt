@@ -73,12 +73,13 @@ abbrev pub typed : Bool → Fault → Fault
 typed true f = f
 typed false f = Bad 3 127
 
--- a unit in a blank square: Table 31, else Table 27, else unknown (6.3.3.5.7)
+-- a unit after set-up that no square waits for: Table 27, else unknown (6.3.3.5.7)
 abbrev pub replayed : Kind → Code
 replayed Au3 = code 5 1
 replayed Ar = code 5 1
 replayed Dt = code 127 127
 
+-- a unit in a blank square: Table 31 during set-up
 abbrev pub outOfSequence : State → Kind → Code
 outOfSequence IDLE k = code 0 0
 outOfSequence WFTC k = code 9 1

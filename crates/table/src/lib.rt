@@ -35,6 +35,13 @@ pub enum Kind {
     Dt,
 }
 
+// Their numbers for a host.
+pub const AU3_NUMBER: u8 = 1;
+
+pub const AR_NUMBER: u8 = 2;
+
+pub const DT_NUMBER: u8 = 3;
+
 // The outgoing event to the user of the safe service: user data with their length, a release or a report with reason and sub-reason.
 pub enum ToUser {
     Nothing,

@@ -4,7 +4,7 @@ ghost use mathlib.Core.Bool.{_&&_};
 ghost use Prim.Native.Nat.{_-_};
 ghost use lib.Dec.{leb};
 ghost use Rattle.units.specs.Units.{typeOf};
-ghost use Rattle.store.specs.Store.{HasRecord, kmacAt};
+ghost use Rattle.store.specs.Store.{HasPlace, kmacAt};
 ghost use Rattle.table.specs.Steps.{found};
 ghost use Rattle.table.specs.Parts.{searchedAs};
 use refusal::Refusal;
@@ -47,7 +47,7 @@ pub fn search(store: &[u8], own: u32, peer: u32, t: u32) -> Searched
 
 // The KMAC at the place that was found: read there, since a second search would test the whole store again.
 pub fn kmac(store: &[u8], place: usize) -> [u8; 24]
-    requires { ⌜ HasRecord (now store) place ⌝ }
+    requires { ⌜ HasPlace (now store) place ⌝ }
     ensures { λ r. ⌜ r ≡ kmacAt (now (store .entry)) (place - 1) ⌝ }
 {
     let mut r = [0u8; KMAC];

@@ -7,7 +7,7 @@ use crate::AU1_LENGTH;
 use crate::RANDOM;
 use crate::etcs_id;
 
-// The 13 bytes of an AU2 before its MAC, which end in RA; RB; B.
+// The string of an AU2's MAC: its 13 bytes, of which the last eight are RA, then RB, then B.
 pub fn au2_message(caller: u32, rb: [u8; 8], text: &[u8]) -> [u8; 24]
     requires { ⌜ length (now text) ≡ 13 ⌝ }
     ensures { λ r. ⌜ r ≡ now (text .entry) ++ (rb ++ etcsId caller) ⌝ }
@@ -20,7 +20,7 @@ pub fn au2_message(caller: u32, rb: [u8; 8], text: &[u8]) -> [u8; 24]
     m
 }
 
-// The first byte of an AU3; RB; RA.
+// The string of an AU3's MAC: its first byte, then RB, then RA.
 pub fn au3_message(first: u8, ra: [u8; 8], rb: [u8; 8]) -> [u8; 17]
     ensures { λ r. ⌜ r ≡ first ∷ rb ++ ra ⌝ }
 {

@@ -6,7 +6,7 @@ use borrow.Author.Count.{below-none, below-more}
 use Rattle.des.specs.Bits.{bits}
 use Rattle.des.specs.Tables.{pc1, shifts}
 use Rattle.des.specs.Des.{permute, swap, shiftBoth}
-use Rattle.fast_des.proofs.ChoiceLaws.{along, order, key-along}
+use Rattle.fast_des.proofs.ChoiceLaws.{along, shiftsBefore, key-along}
 use Rattle.fast_des.proofs.schedule_by.Statement.{statement}
 use Rattle.fast_des.proofs.schedule_by.Tie as tie
 
@@ -35,44 +35,44 @@ choices-requires-4 : tie.Need-choices-requires-4
 choices-requires-4 c κs = c .before .before .before .before .before .before .before .before .pre
 
 returns : tie.Need-returns
-unfolding along order shifts swap shiftBoth
+unfolding along shiftsBefore shifts swap shiftBoth
 returns c =
     let third = c .before .before in
     let second = third .before in
     let first = second .before .before in
-    let half = first .before in
-    let one = half .before in
+    let turned = first .before in
+    let one = turned .before in
     let key = bits 64 (one .before .before .args .key) in
     let start : bits 56 (one .choice1 .result) ≡ permute pc1 key = one .choice1 .ensures .same in
-    let later : bits 56 (half .shift-15 .result) ≡ along (15 ∷ []) (permute pc1 key) = half .shift-15 .ensures .same ∙ ap (shiftBoth 15) start in
-    let from-a = key-along key [] (one .choice1 .result) start in
-    let from-b = key-along key (2 ∷ []) (second .before .shift-2 .result) (second .before .shift-2 .ensures .same ∙ ap (shiftBoth 2) start) in
-    let from-c = key-along key (15 ∷ []) (half .shift-15 .result) later in
-    let from-d = key-along key (2 ∷ 15 ∷ []) (c .before .shift-22 .result) (c .before .shift-22 .ensures .same ∙ ap (shiftBoth 2) later) in
-    let a = first .choices .ensures in
-    let b = second .choices2 .ensures in
-    let e = third .choices3 .ensures in
-    let d = c .choices4 .ensures in
+    let later : bits 56 (turned .shift-15 .result) ≡ along (15 ∷ []) (permute pc1 key) = turned .shift-15 .ensures .same ∙ ap (shiftBoth 15) start in
+    let from-0 = key-along key [] (one .choice1 .result) start in
+    let from-2 = key-along key (2 ∷ []) (second .before .shift-2 .result) (second .before .shift-2 .ensures .same ∙ ap (shiftBoth 2) start) in
+    let from-15 = key-along key (15 ∷ []) (turned .shift-15 .result) later in
+    let from-17 = key-along key (2 ∷ 15 ∷ []) (c .before .shift-22 .result) (c .before .shift-22 .ensures .same ∙ ap (shiftBoth 2) later) in
+    let of-0 = first .choices .ensures in
+    let of-2 = second .choices2 .ensures in
+    let of-15 = third .choices3 .ensures in
+    let of-17 = c .choices4 .ensures in
     record {
       each =
           (below-more _ 15 (below-more _ 14 (below-more _ 13 (below-more _ 12 (below-more _ 11 (below-more _ 10 (below-more _ 9 (below-more _ 8
           (below-more _ 7 (below-more _ 6 (below-more _ 5 (below-more _ 4 (below-more _ 3 (below-more _ 2 (below-more _ 1 (below-more _ 0 (below-none _)
-          (from-d 12 0 _ (d .1 .1) refl))
-          (from-b 0 1 _ (b .0 .0) refl))
-          (from-a 4 2 _ (a .0 .1) refl))
-          (from-b 4 3 _ (b .0 .1) refl))
-          (from-a 8 4 _ (a .1 .0) refl))
-          (from-b 8 5 _ (b .1 .0) refl))
-          (from-a 12 6 _ (a .1 .1) refl))
-          (from-b 12 7 _ (b .1 .1) refl))
-          (from-c 0 8 _ (e .0 .0) refl))
-          (from-d 0 9 _ (d .0 .0) refl))
-          (from-c 4 10 _ (e .0 .1) refl))
-          (from-d 4 11 _ (d .0 .1) refl))
-          (from-c 8 12 _ (e .1 .0) refl))
-          (from-d 8 13 _ (d .1 .0) refl))
-          (from-c 12 14 _ (e .1 .1) refl))
-          (from-a 0 15 _ (a .0 .0) refl));
+          (from-17 12 0 _ (of-17 .1 .1) refl))
+          (from-2 0 1 _ (of-2 .0 .0) refl))
+          (from-0 4 2 _ (of-0 .0 .1) refl))
+          (from-2 4 3 _ (of-2 .0 .1) refl))
+          (from-0 8 4 _ (of-0 .1 .0) refl))
+          (from-2 8 5 _ (of-2 .1 .0) refl))
+          (from-0 12 6 _ (of-0 .1 .1) refl))
+          (from-2 12 7 _ (of-2 .1 .1) refl))
+          (from-15 0 8 _ (of-15 .0 .0) refl))
+          (from-17 0 9 _ (of-17 .0 .0) refl))
+          (from-15 4 10 _ (of-15 .0 .1) refl))
+          (from-17 4 11 _ (of-17 .0 .1) refl))
+          (from-15 8 12 _ (of-15 .1 .0) refl))
+          (from-17 8 13 _ (of-17 .1 .0) refl))
+          (from-15 12 14 _ (of-15 .1 .1) refl))
+          (from-0 0 15 _ (of-0 .0 .0) refl));
     }
 
 pub schedule-by-spec : {M : Type 1} → statement M

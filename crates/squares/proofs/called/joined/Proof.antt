@@ -6,7 +6,7 @@ use borrow.Author.Needs.{needs}
 use Rattle.refusal.specs.House.{gives}
 use Rattle.units.proofs.BuiltLaws.{au1-long}
 use Rattle.table.specs.Steps.{found}
-use Rattle.table.proofs.SideLaws.{searched, made-type, record-there, indication-refused, indication-answered}
+use Rattle.table.proofs.SideLaws.{searched, made-type, place-inside, indication-refused, indication-answered}
 use Rattle.squares.proofs.called.joined.Statement.{statement}
 use Rattle.squares.proofs.called.joined.Tie as tie
 
@@ -37,7 +37,7 @@ kmac-requires c κs =
     let at = c .before .before in
     let read = at .before .before .before in
     let a = read .before .before .before .before .args in
-    record-there (a .store .now) (a .own) (read .sender-of .result) (a .t) (at .place .given .0 .0) (place at)
+    place-inside (a .store .now) (a .own) (read .sender-of .result) (a .t) (at .place .given .0 .0) (place at)
 
 waiting-requires : tie.Need-waiting-requires
 waiting-requires c κs = search needs

@@ -4,7 +4,7 @@ use mathlib.Core.Path.{_≡_, refl, _∙_}
 use borrow.Author.Needs.{needs}
 use Rattle.refusal.specs.House.{gives}
 use Rattle.table.specs.Steps.{found}
-use Rattle.table.proofs.SideLaws.{searched, made-type, record-there, request-untyped, request-refused, request-sent}
+use Rattle.table.proofs.SideLaws.{searched, made-type, place-inside, request-untyped, request-refused, request-sent}
 use Rattle.squares.proofs.calling.requested.Statement.{statement}
 use Rattle.squares.proofs.calling.requested.Tie as tie
 
@@ -36,7 +36,7 @@ kmac-requires : tie.Need-kmac-requires
 kmac-requires c κs =
     let at = c .before in
     let a = at .before .before .before .before .before .before .args in
-    record-there (a .store .now) (a .own) (a .peer) (a .t) (at .place .given .0 .0) (place at)
+    place-inside (a .store .now) (a .own) (a .peer) (a .t) (at .place .given .0 .0) (place at)
 
 waiting-requires : tie.Need-waiting-requires
 waiting-requires c κs = search needs
