@@ -7,7 +7,7 @@ use Prim.Native.Nat.{ℕ, zero, suc, _+_, _-_, _*_, _/_, _%_, _^_, _≤_, _<_}
 use native.Mathlib.Omega.{arith}
 use lib.Bits.{bitAnd, bitXor}
 use lib.Dec.{lit<}
-use lib.ListN.{length, getD, take, drop, length-append}
+use lib.ListN.{length, getD, take, drop, length-append, length-replicate}
 use Rattle.octets.specs.Bytes.{same, allBelow}
 use Rattle.octets.proofs.BoolLaws.{and-left, and-right, allBelow-at, same-true}
 use Rattle.des.specs.Bits.{bits, xorBits}
@@ -18,30 +18,11 @@ use Rattle.fast_des.specs.Joined.{zeros, placed, pc2Groups}
 use Rattle.des.proofs.BitLaws.{length-bits}
 use Rattle.des.proofs.BlockLaws.{small-bits, length-permute, length-xor}
 use Rattle.des.proofs.MapLaws.{shift-map}
-use Rattle.des.proofs.CipherLaws.{up-is}
 use Rattle.des.proofs.WordLaws.{recast, xored, group-bits}
-use Rattle.fast_des.proofs.LinearLaws.{permute-xor, shift-permute}
+use Rattle.fast_des.proofs.LinearLaws.{permute-xor, along, along-table, shift-table}
 use Rattle.fast_des.proofs.JoinedLaws.{keep, merge, length-keep, keep-none, keep-all, keep-placed, pc2-at}
 
--- ---- several shifts, one behind the other
-
--- C and D shifted by each of the numbers, the last of them first
-unfoldable pub along : List ℕ → List ℕ → List ℕ
-along [] cd = cd
-along (n ∷ ns) cd = shiftBoth n (along ns cd)
-
-along-permute : (ns t bs : List ℕ) → permute (along ns t) bs ≡ along ns (permute t bs)
-unfolding along
-along-permute [] t bs = refl
-along-permute (n ∷ ns) t bs = shift-permute n (along ns t) bs ∙ ap (shiftBoth n) (along-permute ns t bs)
-
--- as one permutation
-along-table : (ns cd : List ℕ) → length cd ≡ 56 → along ns cd ≡ permute (along ns (upFrom 1 56)) cd
-along-table ns cd h = sym (along-permute ns (upFrom 1 56) cd ∙ ap (along ns) (up-is 56 cd h))
-
-shift-table : (n : ℕ) (cd : List ℕ) → length cd ≡ 56 → shiftBoth n cd ≡ permute (shiftBoth n (upFrom 1 56)) cd
-unfolding along
-shift-table n cd h = along-table (n ∷ []) cd h
+-- ---- shifts of sums
 
 shift-xor : (n : ℕ) (a b : List ℕ) → length a ≡ 56 → length b ≡ 56 → shiftBoth n (xorBits a b) ≡ xorBits (shiftBoth n a) (shiftBoth n b)
 shift-xor n a b ha hb =
@@ -107,20 +88,15 @@ moves-both i k hi hk = allBelow-at 4 k (λ (k : ℕ). movesC i k && movesD i k) 
 
 -- ---- the entries for a group of C and one of D
 
-length-zeros : (n : ℕ) → length (zeros n) ≡ n
-unfolding zeros
-length-zeros zero = refl
-length-zeros (suc n) = ap suc (length-zeros n)
-
 length-placed : (w k : ℕ) (s : List ℕ) → length s ≡ 4 → 4 * k + 4 ≤ w → length (placed w k s) ≡ w
-unfolding placed
+unfolding placed zeros
 length-placed w k s h l =
     omega (
       arith,
       length-append (zeros (4 * k)) (s ++ zeros (w - (4 * k + 4))),
       length-append s (zeros (w - (4 * k + 4))),
-      length-zeros (4 * k),
-      length-zeros (w - (4 * k + 4)),
+      length-replicate {A = ℕ} (4 * k) 0,
+      length-replicate {A = ℕ} (w - (4 * k + 4)) 0,
     )
 
 -- group i of C is c, group i of D is d, and all else is zero

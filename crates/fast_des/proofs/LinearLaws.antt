@@ -165,14 +165,31 @@ module _ (v w : ℕ) (t : List ℕ) {f : ℕ → ℕ} (l : Linear f) (test : per
 
 -- ---- left shifts
 
-pub shift-permute : (n : ℕ) (t bs : List ℕ) → permute (shiftBoth n t) bs ≡ shiftBoth n (permute t bs)
+shift-permute : (n : ℕ) (t bs : List ℕ) → permute (shiftBoth n t) bs ≡ shiftBoth n (permute t bs)
 unfolding permute
 shift-permute n t bs = sym (shift-map (λ (k : ℕ). getD bs (k - 1) 0) n t)
+
+-- C and D shifted by each of the numbers, the last of them first
+unfoldable pub along : List ℕ → List ℕ → List ℕ
+along [] cd = cd
+along (n ∷ ns) cd = shiftBoth n (along ns cd)
+
+along-permute : (ns t bs : List ℕ) → permute (along ns t) bs ≡ along ns (permute t bs)
+unfolding along
+along-permute [] t bs = refl
+along-permute (n ∷ ns) t bs = shift-permute n (along ns t) bs ∙ ap (shiftBoth n) (along-permute ns t bs)
+
+-- as one permutation
+pub along-table : (ns cd : List ℕ) → length cd ≡ 56 → along ns cd ≡ permute (along ns (upFrom 1 56)) cd
+along-table ns cd h = sym (along-permute ns (upFrom 1 56) cd ∙ ap (along ns) (up-is 56 cd h))
+
+pub shift-table : (n : ℕ) (cd : List ℕ) → length cd ≡ 56 → shiftBoth n cd ≡ permute (shiftBoth n (upFrom 1 56)) cd
+unfolding along
+shift-table n cd h = along-table (n ∷ []) cd h
 
 pub shift-word : (n high low : ℕ) → permutesPowers 56 56 (shiftBoth n (upFrom 1 56)) (shiftParts n high low) ≡ true → (cd : ℕ) {r : ℕ} → cd < 2 ^ 64 → r ≡ shiftParts n high low cd
     → Holds 56 r (shiftBoth n (bits 56 cd))
 unfolding shiftParts
 shift-word n high low test cd h e =
     let linear : Linear (shiftParts n high low) = xor-linear (and-linear high (shl-linear n same-linear)) (and-linear low (shr-linear (28 - n) same-linear)) in
-    recast (by-powers 56 56 (shiftBoth n (upFrom 1 56)) linear test cd h e)
-    (shift-permute n (upFrom 1 56) (bits 56 cd) ∙ ap (shiftBoth n) (up-is 56 (bits 56 cd) (length-bits 56 cd)))
+    recast (by-powers 56 56 (shiftBoth n (upFrom 1 56)) linear test cd h e) (sym (shift-table n (bits 56 cd) (length-bits 56 cd)))

@@ -6,7 +6,8 @@ use borrow.Author.Count.{below-none, below-more}
 use Rattle.des.specs.Bits.{bits}
 use Rattle.des.specs.Tables.{pc1, shifts}
 use Rattle.des.specs.Des.{permute, swap, shiftBoth}
-use Rattle.fast_des.proofs.ChoiceLaws.{along, shiftsBefore, key-along}
+use Rattle.fast_des.proofs.LinearLaws.{along}
+use Rattle.fast_des.proofs.ChoiceLaws.{shiftsBefore, key-along}
 use Rattle.fast_des.proofs.schedule_by.Statement.{statement}
 use Rattle.fast_des.proofs.schedule_by.Tie as tie
 
