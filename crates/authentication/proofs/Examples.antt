@@ -4,10 +4,10 @@ use mathlib.Core.Path.{◌≡◌, refl}
 use mathlib.Core.List.{List, [], ◌∷◌}
 use Prim.Native.Nat.{ℕ}
 use Rattle.octets.specs.Bytes.{part}
-use Rattle.des.specs.Bits.{bits, valueFrom, value, bitsOfBytes, bytesOfBits, xorBits}
-use Rattle.des.specs.Tables.{ip, ipInverse, e, p, pc1, pc2, shifts, sboxes}
-use Rattle.des.specs.Des.{permute, row, column, select, selects, cipherFunction, swap, shiftBoth, shifted, subkey, round, rounds, cipher, encipherBits, decipherBits}
-use Rattle.authentication.specs.Mac.{block, chain, finish, cbcMac, unpadded, padded, macString}
+use Rattle.des.specs.Bits.{bits, value_from, value, bits_of_bytes, bytes_of_bits, xor_bits}
+use Rattle.des.specs.Tables.{ip, ip_inverse, e, p, pc1, pc2, shifts, sboxes}
+use Rattle.des.specs.Des.{permute, row, column, select, selects, cipher_function, swap, shift_both, shifted, subkey, round, rounds, cipher, encipher_bits, decipher_bits}
+use Rattle.authentication.specs.Mac.{block, chain, finish, cbc_mac, unpadded, padded, mac_string}
 
 -- K1, K2 and K3
 abbrev pub key : List ℕ
@@ -20,16 +20,16 @@ key =
 abbrev pub string : List ℕ
 string = 0 ∷ 1 ∷ 2 ∷ 3 ∷ 4 ∷ 5 ∷ 6 ∷ 7 ∷ 8 ∷ 9 ∷ 10 ∷ 11 ∷ 12 ∷ 13 ∷ 14 ∷ 15 ∷ 16 ∷ 17 ∷ 18 ∷ 19 ∷ 20 ∷ []
 
-pub annex-b : cbcMac key (padded string) ≡ 0x36 ∷ 0x1d ∷ 0x43 ∷ 0x1e ∷ 0xd3 ∷ 0x96 ∷ 0xc1 ∷ 0x75 ∷ []
-unfolding bits valueFrom value bitsOfBytes bytesOfBits xorBits permute row column select selects cipherFunction swap shiftBoth shifted subkey round rounds cipher encipherBits decipherBits ip ipInverse e p pc1 pc2 shifts sboxes part block chain finish cbcMac padded
-annex-b = refl
+pub annex_b : cbc_mac key (padded string) ≡ 0x36 ∷ 0x1d ∷ 0x43 ∷ 0x1e ∷ 0xd3 ∷ 0x96 ∷ 0xc1 ∷ 0x75 ∷ []
+unfolding bits value_from value bits_of_bytes bytes_of_bits xor_bits permute row column select selects cipher_function swap shift_both shifted subkey round rounds cipher encipher_bits decipher_bits ip ip_inverse e p pc1 pc2 shifts sboxes part block chain finish cbc_mac padded
+annex_b = refl
 
 -- l, DA, m and one byte of padding
-pub string_bytes : macString (0x12 ∷ 0x34 ∷ 0x56 ∷ []) (0x0a ∷ 0x41 ∷ []) ≡ 0 ∷ 5 ∷ 0x12 ∷ 0x34 ∷ 0x56 ∷ 0x0a ∷ 0x41 ∷ 0 ∷ []
-unfolding unpadded padded macString
+pub string_bytes : mac_string (0x12 ∷ 0x34 ∷ 0x56 ∷ []) (0x0a ∷ 0x41 ∷ []) ≡ 0 ∷ 5 ∷ 0x12 ∷ 0x34 ∷ 0x56 ∷ 0x0a ∷ 0x41 ∷ 0 ∷ []
+unfolding unpadded padded mac_string
 string_bytes = refl
 
 -- why l is there: DA | m alone, padded, is the same for this unit and for the same unit with a zero byte behind it
-pub length-needed : padded (0x12 ∷ 0x34 ∷ 0x56 ∷ 0x0a ∷ 0x41 ∷ []) ≡ padded (0x12 ∷ 0x34 ∷ 0x56 ∷ 0x0a ∷ 0x41 ∷ 0 ∷ [])
+pub length_needed : padded (0x12 ∷ 0x34 ∷ 0x56 ∷ 0x0a ∷ 0x41 ∷ []) ≡ padded (0x12 ∷ 0x34 ∷ 0x56 ∷ 0x0a ∷ 0x41 ∷ 0 ∷ [])
 unfolding padded
-length-needed = refl
+length_needed = refl

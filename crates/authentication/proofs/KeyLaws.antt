@@ -14,22 +14,22 @@ use lib.Seq.{take-suc, take-suc-set}
 use Rattle.octets.specs.Bytes.{bytes, splice}
 use Rattle.octets.proofs.NumberLaws.{length-bytes}
 use Rattle.octets.proofs.SpliceLaws.{splice-splice, splice_all}
-use Rattle.des.specs.Bits.{bits, bitsOfBytes, bytesOfBits}
+use Rattle.des.specs.Bits.{bits, bits_of_bytes, bytes_of_bits}
 use Rattle.des.proofs.BitLaws.{take-bits, drop_bits}
-use Rattle.des.proofs.ByteLaws.{bytes_bits, length-bytesOfBits}
+use Rattle.des.proofs.ByteLaws.{bytes_bits, length-bytes_of_bits}
 use Rattle.des.proofs.WordLaws.{pushed, whole, masked}
 use Rattle.authentication.specs.Mac.{block}
-use Rattle.authentication.specs.Keys.{left, right, triple, ks1, ks2, ks3, odd, sessionKeys, Drawn}
+use Rattle.authentication.specs.Keys.{left, right, triple, ks1, ks2, ks3, odd, session_keys, Drawn}
 
 -- ---- halves
 
-pub lefts-of : (a b : ℕ) → a < 2 ^ 64 → b < 2 ^ 64 → bits 64 (bit_or (a / 2 ^ 32 * 2 ^ 32 % 2 ^ 64) (b / 2 ^ 32)) ≡ take 32 (bits 64 a) ++ take 32 (bits 64 b)
-lefts-of a b ha hb =
+pub lefts_of : (a b : ℕ) → a < 2 ^ 64 → b < 2 ^ 64 → bits 64 (bit_or (a / 2 ^ 32 * 2 ^ 32 % 2 ^ 64) (b / 2 ^ 32)) ≡ take 32 (bits 64 a) ++ take 32 (bits 64 b)
+lefts_of a b ha hb =
     (pushed 32 32 (lit≤ tt) (whole 32 (a / 2 ^ 32) (shr_lt 32 32 ha)) (whole 32 (b / 2 ^ 32) (shr_lt 32 32 hb))).same
     ∙ ap₂ (λ (s t : List ℕ). s ++ t) (sym (take-bits 32 32 a)) (sym (take-bits 32 32 b))
 
-pub rights-of : (a b : ℕ) → bits 64 (bit_or (bit_and a (2 ^ 32 - 1) * 2 ^ 32 % 2 ^ 64) (bit_and b (2 ^ 32 - 1))) ≡ drop 32 (bits 64 a) ++ drop 32 (bits 64 b)
-rights-of a b =
+pub rights_of : (a b : ℕ) → bits 64 (bit_or (bit_and a (2 ^ 32 - 1) * 2 ^ 32 % 2 ^ 64) (bit_and b (2 ^ 32 - 1))) ≡ drop 32 (bits 64 a) ++ drop 32 (bits 64 b)
+rights_of a b =
     (pushed 32 32 (lit≤ tt) (masked 32 a) (masked 32 b)).same
     ∙ ap₂ (λ (s t : List ℕ). s ++ t) (sym (drop_bits 32 32 a)) (sym (drop_bits 32 32 b))
 
@@ -51,9 +51,9 @@ joined d r s t a b c h er es et =
 
 -- ---- parity
 
-pub odd-of : (b : ℕ) → b < 256 → bit_or (b / 2 * 2 % 256) ((ones (b / 2) % 2 + 1) % 2) ≡ odd b
+pub odd_of : (b : ℕ) → b < 256 → bit_or (b / 2 * 2 % 256) ((ones (b / 2) % 2 + 1) % 2) ≡ odd b
 unfolding odd
-odd-of b h =
+odd_of b h =
     let e : b / 2 * 2 % 256 ≡ b / 2 * 2 = omega arith in
     let l : (ones (b / 2) % 2 + 1) % 2 < 2 = omega arith in
     let o : (ones (b / 2) % 2 + 1) % 2 ≡ (ones (b / 2) + 1) % 2 = omega arith in
@@ -73,42 +73,42 @@ unfolding odd
 odd-high b = omega arith
 
 -- a turn of the loop over the bytes
-pub parity-turn : (d r : List ℕ) (i q : ℕ) → i < length d → i < length r → q ≡ odd (get_or d i 0) → take i r ≡ map odd (take i d)
+pub parity_turn : (d r : List ℕ) (i q : ℕ) → i < length d → i < length r → q ≡ odd (get_or d i 0) → take i r ≡ map odd (take i d)
     → take (i + 1) (set r i q) ≡ map odd (take (i + 1) d)
-parity-turn d r i q h l e p =
+parity_turn d r i q h l e p =
     ap (λ (n : ℕ). take n (set r i q)) (add-one i) ∙ take-suc-set r i q l
     ∙ ap₂ (λ (s : List ℕ) (n : ℕ). s ++ (n ∷ [])) p e
     ∙ sym (ap (λ (n : ℕ). map odd (take n d)) (add-one i) ∙ ap (map odd) (take-suc d i 0 h) ∙ map-append odd (take i d) (get_or d i 0 ∷ []))
 
 -- ---- the three keys
 
-pub derived-of : (kmac ra rb t : List ℕ) (a b x y one two three : ℕ) → bits 64 a ≡ bitsOfBytes ra → bits 64 b ≡ bitsOfBytes rb
+pub derived_of : (kmac ra rb t : List ℕ) (a b x y one two three : ℕ) → bits 64 a ≡ bits_of_bytes ra → bits 64 b ≡ bits_of_bytes rb
     → bits 64 x ≡ take 32 (bits 64 a) ++ take 32 (bits 64 b) → bits 64 y ≡ drop 32 (bits 64 a) ++ drop 32 (bits 64 b)
-    → Drawn kmac x y one two three → t ≡ bytes 8 one ++ (bytes 8 two ++ bytes 8 three) → map odd t ≡ sessionKeys kmac ra rb
-unfolding sessionKeys ks1 ks2 ks3 left right
-derived-of kmac ra rb t a b x y one two three ea eb ex ey d e =
+    → Drawn kmac x y one two three → t ≡ bytes 8 one ++ (bytes 8 two ++ bytes 8 three) → map odd t ≡ session_keys kmac ra rb
+unfolding session_keys ks1 ks2 ks3 left right
+derived_of kmac ra rb t a b x y one two three ea eb ex ey d e =
     let fx : bits 64 x ≡ left ra ++ left rb = ex ∙ ap₂ (λ (s t : List ℕ). take 32 s ++ take 32 t) ea eb in
     let fy : bits 64 y ≡ right ra ++ right rb = ey ∙ ap₂ (λ (s t : List ℕ). drop 32 s ++ drop 32 t) ea eb in
     let k1 = block kmac 0 in
     let k2 = block kmac 1 in
     let k3 = block kmac 2 in
     ap (map odd)
-    (e ∙ ap₂ (λ (s t : List ℕ). s ++ t) (sym (bytes_bits 8 one) ∙ ap (bytesOfBits 8) (d.first ∙ ap (triple k1 k2 k3) fx))
-    (ap₂ (λ (s t : List ℕ). s ++ t) (sym (bytes_bits 8 two) ∙ ap (bytesOfBits 8) (d.second ∙ ap (triple k1 k2 k3) fy))
-    (sym (bytes_bits 8 three) ∙ ap (bytesOfBits 8) (d.third ∙ ap (triple k3 k2 k1) fx))))
+    (e ∙ ap₂ (λ (s t : List ℕ). s ++ t) (sym (bytes_bits 8 one) ∙ ap (bytes_of_bits 8) (d.first ∙ ap (triple k1 k2 k3) fx))
+    (ap₂ (λ (s t : List ℕ). s ++ t) (sym (bytes_bits 8 two) ∙ ap (bytes_of_bits 8) (d.second ∙ ap (triple k1 k2 k3) fy))
+    (sym (bytes_bits 8 three) ∙ ap (bytes_of_bits 8) (d.third ∙ ap (triple k3 k2 k1) fx))))
 
-pub length-keys : (kmac ra rb : List ℕ) → length (sessionKeys kmac ra rb) ≡ 24
-unfolding sessionKeys
+pub length-keys : (kmac ra rb : List ℕ) → length (session_keys kmac ra rb) ≡ 24
+unfolding session_keys
 length-keys kmac ra rb =
-    let a = bytesOfBits 8 (ks1 kmac ra rb) in
-    let b = bytesOfBits 8 (ks2 kmac ra rb) in
-    let c = bytesOfBits 8 (ks3 kmac ra rb) in
+    let a = bytes_of_bits 8 (ks1 kmac ra rb) in
+    let b = bytes_of_bits 8 (ks2 kmac ra rb) in
+    let c = bytes_of_bits 8 (ks3 kmac ra rb) in
     length-map (a ++ (b ++ c)) odd
     ∙ omega (
       arith,
       length-append a (b ++ c),
       length-append b c,
-      length-bytesOfBits 8 (ks1 kmac ra rb),
-      length-bytesOfBits 8 (ks2 kmac ra rb),
-      length-bytesOfBits 8 (ks3 kmac ra rb),
+      length-bytes_of_bits 8 (ks1 kmac ra rb),
+      length-bytes_of_bits 8 (ks2 kmac ra rb),
+      length-bytes_of_bits 8 (ks3 kmac ra rb),
     )

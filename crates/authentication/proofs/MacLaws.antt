@@ -13,13 +13,13 @@ use Rattle.octets.specs.Bytes.{Bytes, bytes, number, same}
 use Rattle.octets.proofs.BoolLaws.{same_refl, same_true}
 use Rattle.octets.proofs.NumberLaws.{part_bytes, bytes_one}
 use Rattle.octets.proofs.PartLaws.{part-whole}
-use Rattle.des.specs.Bits.{bits, xorBits, bytesOfBits}
-use Rattle.des.specs.Des.{decipherBits}
+use Rattle.des.specs.Bits.{bits, xor_bits, bytes_of_bits}
+use Rattle.des.specs.Des.{decipher_bits}
 use Rattle.des.specs.Words.{Keys}
 use Rattle.fast_des.specs.declared.Halves.{Halves}
 use Rattle.fast_des.specs.Inside.{Entered, Leaves, Adds, EnciphersInside, DeciphersInside}
-use Rattle.des.proofs.ByteLaws.{bytes_bits, length-bytesOfBits}
-use Rattle.authentication.specs.Mac.{block, chain, finish, cbcMac, macString, mac}
+use Rattle.des.proofs.ByteLaws.{bytes_bits, length-bytes_of_bits}
+use Rattle.authentication.specs.Mac.{block, chain, finish, cbc_mac, mac_string, mac}
 use Rattle.authentication.proofs.PairLaws.{length-string}
 use Rattle.authentication.proofs.StringLaws.{block-number}
 
@@ -30,14 +30,14 @@ unfolding chain
 chain-start k1 s h o = o
 
 -- block k of a string, inside DES
-pub block-entered : (s : List ℕ) (k x : ℕ) (h : Halves) → 8 * k + 8 ≤ length s → x ≡ number 8 s (8 * k) → Entered h (bits 64 x) → Entered h (block s k)
-block-entered s k x h l e b = subst (λ (bs : List ℕ). Entered h bs) (block-number s k x l e) b
+pub block_entered : (s : List ℕ) (k x : ℕ) (h : Halves) → 8 * k + 8 ≤ length s → x ≡ number 8 s (8 * k) → Entered h (bits 64 x) → Entered h (block s k)
+block_entered s k x h l e b = subst (λ (bs : List ℕ). Entered h bs) (block-number s k x l e) b
 
 pub chain-step : (k1 s keys : List ℕ) (k : ℕ) (h b sum r : Halves) → Keys k1 keys → Entered h (chain k1 s k) → Entered b (block s k) → Adds h b sum → EnciphersInside sum keys r
     → Entered r (chain k1 s (k + 1))
 unfolding chain
 chain-step k1 s keys k h b sum r ks eh eb a p =
-    subst (λ (n : ℕ). Entered r (chain k1 s n)) (sym (add-one k)) (p.by k1 (xorBits (chain k1 s k) (block s k)) ks (a.by (chain k1 s k) (block s k) eh eb))
+    subst (λ (n : ℕ). Entered r (chain k1 s n)) (sym (add-one k)) (p.by k1 (xor_bits (chain k1 s k) (block s k)) ks (a.by (chain k1 s k) (block s k) eh eb))
 
 -- ---- the schedules of a triple key
 
@@ -46,19 +46,19 @@ keyed key ks n x h e k = subst (λ (l : List ℕ). Keys l ks) (block-number key 
 
 -- ---- the MAC: the chain, the two last steps, and out of DES
 
-pub mac-of : (key d m k2 k3 : List ℕ) (h u v : Halves) (x : ℕ) → length d ≡ 3 → Entered h (chain (block key 0) (macString d m) ((length m + 12) / 8)) → Keys (block key 1) k2
+pub mac_of_lem : (key d m k2 k3 : List ℕ) (h u v : Halves) (x : ℕ) → length d ≡ 3 → Entered h (chain (block key 0) (mac_string d m) ((length m + 12) / 8)) → Keys (block key 1) k2
     → DeciphersInside h k2 u → Keys (block key 2) k3 → EnciphersInside u k3 v → Leaves v x → bytes 8 x ≡ mac key d m
-unfolding mac cbcMac finish
-mac-of key d m k2 k3 h u v x three eh s2 p2 s3 p3 out =
-    let n : (length m + 12) / 8 ≡ length (macString d m) / 8 = omega (arith, length-string d m three) in
-    let c = chain (block key 0) (macString d m) ((length m + 12) / 8) in
+unfolding mac cbc_mac finish
+mac_of_lem key d m k2 k3 h u v x three eh s2 p2 s3 p3 out =
+    let n : (length m + 12) / 8 ≡ length (mac_string d m) / 8 = omega (arith, length-string d m three) in
+    let c = chain (block key 0) (mac_string d m) ((length m + 12) / 8) in
     sym (bytes_bits 8 x)
-    ∙ ap (bytesOfBits 8)
-    (out.by (finish key c) (p3.by (block key 2) (decipherBits (block key 1) c) s3 (p2.by (block key 1) c s2 eh)) ∙ ap (λ (k : ℕ). finish key (chain (block key 0) (macString d m) k)) n)
+    ∙ ap (bytes_of_bits 8)
+    (out.by (finish key c) (p3.by (block key 2) (decipher_bits (block key 1) c) s3 (p2.by (block key 1) c s2 eh)) ∙ ap (λ (k : ℕ). finish key (chain (block key 0) (mac_string d m) k)) n)
 
 pub length-mac : (key destination m : List ℕ) → length (mac key destination m) ≡ 8
-unfolding mac cbcMac
-length-mac key destination m = length-bytesOfBits 8 _
+unfolding mac cbc_mac
+length-mac key destination m = length-bytes_of_bits 8 _
 
 -- ---- words are equal exactly where their bytes are
 

@@ -6,9 +6,9 @@ use Prim.Native.Nat.{ℕ, ◌+◌, ◌-◌, ◌*◌, ◌/◌, ◌%◌}
 use native.Mathlib.Omega.{arith}
 use lib.ListN.{length, get_or, replicate, length-append, length-replicate}
 use lib.Seq.{drop_at}
-use Rattle.octets.specs.Bytes.{be16, part, allZero}
-use Rattle.octets.proofs.PartLaws.{part-long, part-mid, allZero-replicate}
-use Rattle.authentication.specs.Mac.{unpadded, padded, macString}
+use Rattle.octets.specs.Bytes.{be16, part, all_zero}
+use Rattle.octets.proofs.PartLaws.{part-long, part_mid, all_zero-replicate}
+use Rattle.authentication.specs.Mac.{unpadded, padded, mac_string}
 use Rattle.authentication.specs.Claims.{TellsPair}
 
 -- how many bytes of padding stand behind s, and the padding
@@ -20,29 +20,29 @@ padding s = replicate (fill s) 0
 
 module _ (d m : List ℕ) (three : length d ≡ 3) where
   -- l | DA | m | p
-  string-parts : macString d m ≡ be16 (length (d ++ m)) ++ (d ++ (m ++ padding (unpadded d m)))
-  unfolding macString padded unpadded
+  string-parts : mac_string d m ≡ be16 (length (d ++ m)) ++ (d ++ (m ++ padding (unpadded d m)))
+  unfolding mac_string padded unpadded
   string-parts = simp append_assoc
 
   length-unpadded : length (unpadded d m) ≡ length m + 5
   unfolding unpadded
   length-unpadded = omega (arith, length-append d m)
 
-  pub length-string : length (macString d m) ≡ 8 * ((length m + 12) / 8)
-  unfolding macString padded
+  pub length-string : length (mac_string d m) ≡ 8 * ((length m + 12) / 8)
+  unfolding mac_string padded
   length-string = omega (arith, length-unpadded, length-append (unpadded d m) (padding (unpadded d m)), length-replicate {A = ℕ} (fill (unpadded d m)) 0)
 
-  pub string-tells-pair : TellsPair d m (macString d m)
-  unfolding macString padded
+  pub string-tells-pair : TellsPair d m (mac_string d m)
+  unfolding mac_string padded
   string-tells-pair =
       let l = length (d ++ m) in
       let p = padding (unpadded d m) in
       let n : l ≡ length m + 3 = omega (arith, length-append d m) in
       record {
-        l = ap (λ (s : List ℕ). part s 0 2) string-parts ∙ part-mid [] (be16 l) (d ++ (m ++ p)) 0 2 refl refl ∙ ap be16 n;
-        da = ap (λ (s : List ℕ). part s 2 3) string-parts ∙ part-mid (be16 l) d (m ++ p) 2 3 refl three;
-        unit = ap (λ (s : List ℕ). part s 5 (length m)) string-parts ∙ part-mid (be16 l ++ d) m p 5 (length m) (omega arith) refl;
-        zeros = ap allZero (drop_at (unpadded d m) p (length m + 5) length-unpadded) ∙ allZero-replicate (fill (unpadded d m));
+        l = ap (λ (s : List ℕ). part s 0 2) string-parts ∙ part_mid [] (be16 l) (d ++ (m ++ p)) 0 2 refl refl ∙ ap be16 n;
+        da = ap (λ (s : List ℕ). part s 2 3) string-parts ∙ part_mid (be16 l) d (m ++ p) 2 3 refl three;
+        unit = ap (λ (s : List ℕ). part s 5 (length m)) string-parts ∙ part_mid (be16 l ++ d) m p 5 (length m) (omega arith) refl;
+        zeros = ap all_zero (drop_at (unpadded d m) p (length m + 5) length-unpadded) ∙ all_zero-replicate (fill (unpadded d m));
         few = omega (arith, length-string);
         whole = omega (arith, length-string);
       }

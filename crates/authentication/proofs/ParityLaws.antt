@@ -10,12 +10,12 @@ use borrow.Author.Tests.{ltb-true, ltb-false}
 use lib.ListN.{get_or, length-map}
 use Rattle.octets.specs.Bytes.{part}
 use Rattle.octets.proofs.PartLaws.{part-long, part_at, part-past}
-use Rattle.des.specs.Bits.{xorBits}
-use Rattle.des.specs.Des.{encipherBits, decipherBits}
+use Rattle.des.specs.Bits.{xor_bits}
+use Rattle.des.specs.Des.{encipher_bits, decipher_bits}
 use Rattle.des.specs.Claims.{SameButParity}
-use Rattle.des.proofs.ParityLaws.{same-encipher, same-decipher, same-used}
-use Rattle.authentication.specs.Mac.{block, chain, finish, cbcMac, mac}
-use Rattle.authentication.specs.Keys.{triple, ks1, ks2, ks3, odd, sessionKeys, derived}
+use Rattle.des.proofs.ParityLaws.{same_encipher, same_decipher, same-used}
+use Rattle.authentication.specs.Mac.{block, chain, finish, cbc_mac, mac}
+use Rattle.authentication.specs.Keys.{triple, ks1, ks2, ks3, odd, session_keys, derived}
 use Rattle.authentication.specs.Unit.{unit_of, built, checked}
 use Rattle.authentication.proofs.KeyLaws.{odd-high}
 
@@ -42,13 +42,13 @@ set-parity key = record { long = length-map key odd; high = high key }
 module _ (a b : List ℕ) (e : SameButParity a b) where
   -- ---- the MAC, and the session keys
 
-  enciphers : (n : ℕ) (x : List ℕ) → encipherBits (block a n) x ≡ encipherBits (block b n) x
+  enciphers : (n : ℕ) (x : List ℕ) → encipher_bits (block a n) x ≡ encipher_bits (block b n) x
   unfolding block
-  enciphers n x = same-encipher _ _ x (same-used _ _ (part-parity a b e (8 * n) 8))
+  enciphers n x = same_encipher _ _ x (same-used _ _ (part-parity a b e (8 * n) 8))
 
-  deciphers : (n : ℕ) (x : List ℕ) → decipherBits (block a n) x ≡ decipherBits (block b n) x
+  deciphers : (n : ℕ) (x : List ℕ) → decipher_bits (block a n) x ≡ decipher_bits (block b n) x
   unfolding block
-  deciphers n x = same-decipher _ _ x (same-used _ _ (part-parity a b e (8 * n) 8))
+  deciphers n x = same_decipher _ _ x (same-used _ _ (part-parity a b e (8 * n) 8))
 
   triples : (i j k : ℕ) (x : List ℕ) → triple (block a i) (block a j) (block a k) x ≡ triple (block b i) (block b j) (block b k) x
   unfolding triple
@@ -57,14 +57,14 @@ module _ (a b : List ℕ) (e : SameButParity a b) where
   chains : (s : List ℕ) (n : ℕ) → chain (block a 0) s n ≡ chain (block b 0) s n
   unfolding chain
   chains s zero = refl
-  chains s (suc n) = enciphers 0 _ ∙ ap (λ (h : List ℕ). encipherBits (block b 0) (xorBits h (block s n))) (chains s n)
+  chains s (suc n) = enciphers 0 _ ∙ ap (λ (h : List ℕ). encipher_bits (block b 0) (xor_bits h (block s n))) (chains s n)
 
   pub same-mac : (destination m : List ℕ) → mac a destination m ≡ mac b destination m
-  unfolding mac cbcMac finish
+  unfolding mac cbc_mac finish
   same-mac destination m = simp (enciphers, deciphers, chains)
 
-  pub same_keys : (ra rb : List ℕ) → sessionKeys a ra rb ≡ sessionKeys b ra rb
-  unfolding sessionKeys ks1 ks2 ks3
+  pub same_keys : (ra rb : List ℕ) → session_keys a ra rb ≡ session_keys b ra rb
+  unfolding session_keys ks1 ks2 ks3
   same_keys ra rb = simp triples
 
   -- ---- what the calls answer

@@ -9,7 +9,7 @@ use lib.Seq.{get_or-append-add}
 use Rattle.octets.specs.Bytes.{number}
 use Rattle.des.specs.Bits.{bits}
 use Rattle.des.proofs.ByteLaws.{bits-number}
-use Rattle.authentication.specs.Mac.{block, unpadded, padded, macString}
+use Rattle.authentication.specs.Mac.{block, unpadded, padded, mac_string}
 
 -- ---- the bytes of l | DA | m
 
@@ -51,14 +51,14 @@ zeros-past [] k i = zeros-at k i
 zeros-past (x ∷ s) k zero = refl
 zeros-past (x ∷ s) k (suc i) = zeros-past s k i
 
-pub string-at : (d m : List ℕ) (i : ℕ) → get_or (macString d m) i 0 ≡ get_or (unpadded d m) i 0
-unfolding macString padded
+pub string-at : (d m : List ℕ) (i : ℕ) → get_or (mac_string d m) i 0 ≡ get_or (unpadded d m) i 0
+unfolding mac_string padded
 string-at d m i = zeros-past (unpadded d m) ((8 - length (unpadded d m) % 8) % 8) i
 
 -- ---- blocks
 
 -- behind l | DA the string's numbers are those of m
-pub number_past : (d m : List ℕ) → length d ≡ 3 → (n i : ℕ) → 5 ≤ i → number n (macString d m) i ≡ number n m (i - 5)
+pub number_past : (d m : List ℕ) → length d ≡ 3 → (n i : ℕ) → 5 ≤ i → number n (mac_string d m) i ≡ number n m (i - 5)
 unfolding number
 number_past d m three zero i h = refl
 number_past d m three (suc n) i h =

@@ -13,16 +13,16 @@ use borrow.Author.Tests.{eqb-true, leb-true, le-leb}
 use Rattle.octets.specs.Bytes.{between, part, same}
 use Rattle.octets.proofs.BoolLaws.{and_both, and_left, and_right, between-true, is-between, same_refl, same_true}
 use Rattle.octets.proofs.SpliceLaws.{splice_front}
-use Rattle.des.specs.Bits.{bytesOfBits}
-use Rattle.refusal.specs.House.{Answer, gives, unlessRefused}
+use Rattle.des.specs.Bits.{bytes_of_bits}
+use Rattle.refusal.specs.House.{Answer, gives, unless_refused}
 use Rattle.refusal.proofs.Laws.{asks-gives, gives-number}
 use Rattle.authentication.specs.Mac.{mac}
-use Rattle.authentication.specs.Keys.{odd, ks1, ks2, ks3, sessionKeys, derived}
-use Rattle.authentication.specs.Unit.{header, message, unit_of, built, buffer, body, macOf, rightHeader, rightContents, checked, data_of}
+use Rattle.authentication.specs.Keys.{odd, ks1, ks2, ks3, session_keys, derived}
+use Rattle.authentication.specs.Unit.{header, message, unit_of, built, buffer, body, mac_of, right_header, right_contents, checked, data_of}
 use Rattle.authentication.specs.Claims.{TellsPair, StringTells, OnePair, ParityFreeMac, ParityFreeCalls, Accepts, IsBuilt, AcceptedExactlyBuilt, WrittenAccepted, RefusedBuildWritesNothing, OddParity, OneAnswer}
 use Rattle.authentication.proofs.PairLaws.{string-tells-pair, one_told}
 use Rattle.authentication.proofs.KeyLaws.{odd-ones, odd-high, length-keys}
-use Rattle.authentication.proofs.UnitLaws.{header-only, header-right, take-first, length-unit, body-unit, mac-unit, data-unit, first-unit}
+use Rattle.authentication.proofs.UnitLaws.{header-only, header_right, take-first, length-unit, body-unit, mac-unit, data_unit, first-unit}
 use Rattle.authentication.proofs.AnswerLaws.{Passed, passed, all_right, one-derived, one-built, one-checked}
 use Rattle.authentication.proofs.ParityLaws.{set-parity, same-mac, same_keys, same-unit, same-built, same-checked, same-derived}
 
@@ -39,11 +39,11 @@ one-pair =
 
 -- ---- parity bits of a key
 
-pub parity-free-mac : ParityFreeMac
-parity-free-mac = record { macs = λ a b destination m e. same-mac a b e destination m; set = λ key destination m. same-mac (map odd key) key (set-parity key) destination m }
+pub parity_free_mac : ParityFreeMac
+parity_free_mac = record { macs = λ a b destination m e. same-mac a b e destination m; set = λ key destination m. same-mac (map odd key) key (set-parity key) destination m }
 
-pub parity-free-calls : ParityFreeCalls
-parity-free-calls =
+pub parity_free_calls : ParityFreeCalls
+parity_free_calls =
     record {
       builds = λ a b destination direction user out e after after' r r' p q.
           let k : built a user out ≡ built b user out = same-built a b e user out in
@@ -53,7 +53,7 @@ parity-free-calls =
       hands_out = λ a b unit destination direction e. ap (λ (k : Answer). data_of k unit) (same-checked a b e unit destination direction);
       derives = λ a b ra rb e r r' key key' p q.
           let k : derived a ≡ derived b = same-derived a b e in
-          (one-derived r r' (p.said ∙ k ∙ sym q.said), p.made ∙ ap₂ (λ (k : Answer) (t : List ℕ). unlessRefused k t (replicate 24 0)) k (same_keys a b e ra rb) ∙ sym q.made);
+          (one-derived r r' (p.said ∙ k ∙ sym q.said), p.made ∙ ap₂ (λ (k : Answer) (t : List ℕ). unless_refused k t (replicate 24 0)) k (same_keys a b e ra rb) ∙ sym q.made);
     }
 
 -- ---- what is accepted is built
@@ -79,20 +79,20 @@ module _ (unit key destination : List ℕ) (direction : Bool) (d : List ℕ) (a 
       ∙ ap₂ (λ (x k : ℕ). x ∷ take k (drop 1 unit)) b e ∙ ap (λ (z : List ℕ). header direction ∷ z) handed_out
 
   accepted-is : unit ≡ unit_of key destination direction d
-  unfolding unit_of message body macOf
+  unfolding unit_of message body mac_of
   accepted-is =
       let n = length unit - 8 in
-      let s : mac key destination (take n unit) ≡ drop n unit = same_true (mac key destination (take n unit)) (drop n unit) p.mac-right in
+      let s : mac key destination (take n unit) ≡ drop n unit = same_true (mac key destination (take n unit)) (drop n unit) p.mac_right_lem in
       sym (take-append-drop n unit) ∙ ap₂ (λ (x y : List ℕ). x ++ y) body_is (sym s ∙ ap (mac key destination) body_is)
 
-  accepted-built : IsBuilt unit key destination direction d
-  accepted-built =
+  accepted_built : IsBuilt unit key destination direction d
+  accepted_built =
       let t : 10 ≤ length unit = leb-true 10 (length unit) (and_left (leb 10 (length unit)) _ p.contents) in
       record {
         triple = eqb-true (length key) 24 p.key_right;
         some = omega (arith, unit-long);
         most = omega (arith, unit-long, between-true 9 1032 (length unit) p.long);
-        unit-is = accepted-is;
+        unit_is = accepted-is;
       }
 
 -- ---- what is built is accepted
@@ -103,20 +103,20 @@ unit-accepted key destination direction d k some most =
     let u = unit_of key destination direction d in
     let n : length u ≡ length d + 9 = length-unit key destination direction d in
     let l : between 9 1032 (length u) ≡ true = is-between 9 1032 (length u) (omega arith) (omega arith) in
-    let m : same (mac key destination (body u)) (macOf u) ≡ true =
+    let m : same (mac key destination (body u)) (mac_of u) ≡ true =
     ap₂ (λ (x y : List ℕ). same (mac key destination x) y) (body-unit key destination direction d) (mac-unit key destination direction d) ∙ same_refl (mac key destination (message direction d)) in
-    let c : rightContents direction u ≡ true =
-    and_both (leb 10 (length u)) (rightHeader direction (get_or u 0 0)) (le-leb 10 (length u) (omega arith)) (ap (rightHeader direction) (first-unit key destination direction d) ∙ header-right direction) in
+    let c : right_contents direction u ≡ true =
+    and_both (leb 10 (length u)) (right_header direction (get_or u 0 0)) (le-leb 10 (length u) (omega arith)) (ap (right_header direction) (first-unit key destination direction d) ∙ header_right direction) in
     let e : length u - 9 ≡ length d = omega arith in
     let a : checked u key destination direction ≡ gives (length d) = sym (all_right u key destination direction k l m c) ∙ ap gives e in
-    record { answer = a; handed = ap (λ (k : Answer). data_of k u) a ∙ data-unit key destination direction d }
+    record { answer = a; handed = ap (λ (k : Answer). data_of k u) a ∙ data_unit key destination direction d }
 
 pub accepted-exactly-built : AcceptedExactlyBuilt
 accepted-exactly-built =
     record {
-      accepted-built = accepted-built;
-      built-accepted = λ unit key destination direction d b.
-          subst (λ (u : List ℕ). Accepts u key destination direction d) (sym b.unit-is) (unit-accepted key destination direction d b.triple b.some b.most);
+      accepted_built = accepted_built;
+      built_accepted = λ unit key destination direction d b.
+          subst (λ (u : List ℕ). Accepts u key destination direction d) (sym b.unit_is) (unit-accepted key destination direction d b.triple b.some b.most);
     }
 
 -- ---- what build writes is accepted
@@ -146,8 +146,8 @@ written-accepted =
           subst (λ (l : List ℕ). Accepts l key destination direction d) (sym w) (unit-accepted key destination direction d b.triple b.range.0 b.range.1);
     }
 
-pub refused-build-writes-nothing : RefusedBuildWritesNothing
-refused-build-writes-nothing =
+pub refused_build_writes_nothing : RefusedBuildWritesNothing
+refused_build_writes_nothing =
     record { kept = λ key destination direction user out n e. ap (λ (k : Answer). buffer k (unit_of key destination direction user) out) e }
 
 -- ---- parity
@@ -158,17 +158,17 @@ map_at f P h (x ∷ xs) zero l = h x
 map_at f P h (x ∷ xs) (suc i) l = map_at f P h xs i (le_of_suc-le-suc l)
 
 pub odd-parity : OddParity
-unfolding sessionKeys
+unfolding session_keys
 odd-parity =
     record {
       keys = λ kmac ra rb i h.
-          let a = bytesOfBits 8 (ks1 kmac ra rb) in
-          let b = bytesOfBits 8 (ks2 kmac ra rb) in
-          let c = bytesOfBits 8 (ks3 kmac ra rb) in
+          let a = bytes_of_bits 8 (ks1 kmac ra rb) in
+          let b = bytes_of_bits 8 (ks2 kmac ra rb) in
+          let c = bytes_of_bits 8 (ks3 kmac ra rb) in
           let l : i < length (a ++ (b ++ c)) = omega (arith, length-keys kmac ra rb, length-map (a ++ (b ++ c)) odd) in
           map_at odd (λ (x : ℕ). ones x % 2 ≡ 1) odd-ones (a ++ (b ++ c)) i l;
       others = odd-high;
     }
 
 pub one_answer : OneAnswer
-one_answer = record { of-keys = one-derived; of-build = one-built; of-check = one-checked }
+one_answer = record { of_keys = one-derived; of_build = one-built; of_check = one-checked }

@@ -15,7 +15,7 @@ use Rattle.octets.proofs.BoolLaws.{and_left, and_right}
 use Rattle.octets.proofs.PartLaws.{part-whole}
 use Rattle.octets.proofs.SpliceLaws.{set-splice, splice-splice, splice_front}
 use Rattle.authentication.specs.Mac.{mac}
-use Rattle.authentication.specs.Unit.{flag, header, message, unit_of, body, macOf, rightHeader}
+use Rattle.authentication.specs.Unit.{flag, header, message, unit_of, body, mac_of, right_header}
 use Rattle.authentication.proofs.MacLaws.{length-mac}
 
 -- ---- the first byte
@@ -25,21 +25,21 @@ header-joined true f e = ap (bit_or 10) e
 header-joined false f e = ap (bit_or 10) e
 
 module _ (direction : Bool) (b : ℕ) where
-  pub ety-wrong : (b / 32 ≡ 0 → ⊥) → false ≡ rightHeader direction b
-  unfolding rightHeader
-  ety-wrong h = simp (ne_eqb (b / 32) 0 h)
+  pub ety_wrong : (b / 32 ≡ 0 → ⊥) → false ≡ right_header direction b
+  unfolding right_header
+  ety_wrong h = simp (ne_eqb (b / 32) 0 h)
 
-  pub mti-wrong : b / 32 ≡ 0 → (bit_and (b / 2) 15 ≡ 5 → ⊥) → false ≡ rightHeader direction b
-  unfolding rightHeader
-  mti-wrong e h = simp (eq-eqb (b / 32) 0 e, ne_eqb (b / 2 % 16) 5 (λ p. h (and_mask (b / 2) 4 ∙ p)))
+  pub mti_wrong : b / 32 ≡ 0 → (bit_and (b / 2) 15 ≡ 5 → ⊥) → false ≡ right_header direction b
+  unfolding right_header
+  mti_wrong e h = simp (eq-eqb (b / 32) 0 e, ne_eqb (b / 2 % 16) 5 (λ p. h (and_mask (b / 2) 4 ∙ p)))
 
-  pub flag-decides : (f : ℕ) → b / 32 ≡ 0 → bit_and (b / 2) 15 ≡ 5 → f ≡ flag direction → eqb (bit_and b 1) f ≡ rightHeader direction b
-  unfolding rightHeader
+  pub flag-decides : (f : ℕ) → b / 32 ≡ 0 → bit_and (b / 2) 15 ≡ 5 → f ≡ flag direction → eqb (bit_and b 1) f ≡ right_header direction b
+  unfolding right_header
   flag-decides f e m h =
       simp (eq-eqb (b / 32) 0 e, eq-eqb (b / 2 % 16) 5 (sym (and_mask (b / 2) 4) ∙ m)) (ap₂ (λ (x y : ℕ). eqb x y) (and_mask b 1) h)
 
-  pub header-only : rightHeader direction b ≡ true → b ≡ header direction
-  unfolding rightHeader
+  pub header-only : right_header direction b ≡ true → b ≡ header direction
+  unfolding right_header
   header-only e =
       let r : (eqb (b / 2 % 16) 5 && eqb (b % 2) (flag direction)) ≡ true = and_right (eqb (b / 32) 0) _ e in
       let z : b / 32 ≡ 0 = eqb-true (b / 32) 0 (and_left (eqb (b / 32) 0) _ e) in
@@ -48,10 +48,10 @@ module _ (direction : Bool) (b : ℕ) where
       let t : b ≡ 10 + b % 2 = omega arith in
       t ∙ ap (λ (n : ℕ). 10 + n) f
 
-pub header-right : (direction : Bool) → rightHeader direction (header direction) ≡ true
-unfolding rightHeader
-header-right true = refl
-header-right false = refl
+pub header_right : (direction : Bool) → right_header direction (header direction) ≡ true
+unfolding right_header
+header_right true = refl
+header_right false = refl
 
 -- ---- what is written
 
@@ -105,13 +105,13 @@ module _ (key destination : List ℕ) (direction : Bool) (d : List ℕ) where
   unfolding body unit_of
   body-unit = take_at (message direction d) (mac key destination (message direction d)) _ cut
 
-  pub mac-unit : macOf (unit_of key destination direction d) ≡ mac key destination (message direction d)
-  unfolding macOf unit_of
+  pub mac-unit : mac_of (unit_of key destination direction d) ≡ mac key destination (message direction d)
+  unfolding mac_of unit_of
   mac-unit = drop_at (message direction d) (mac key destination (message direction d)) _ cut
 
-  pub data-unit : part (unit_of key destination direction d) 1 (length d) ≡ d
+  pub data_unit : part (unit_of key destination direction d) 1 (length d) ≡ d
   unfolding part unit_of message
-  data-unit = take_at d (mac key destination (header direction ∷ d)) (length d) refl
+  data_unit = take_at d (mac key destination (header direction ∷ d)) (length d) refl
 
   pub first-unit : get_or (unit_of key destination direction d) 0 0 ≡ header direction
   unfolding unit_of message

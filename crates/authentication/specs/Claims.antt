@@ -2,15 +2,15 @@
 -- Assumes nothing.
 use Rattle.std.specs.Prelude.{◌≡◌, Bool, true, List, map, ℕ, ◌+◌, ◌/◌, ◌%◌, ◌≤◌, ◌<◌, length, get_or, take, drop}
 use Rattle.std.specs.Int.Count.{ones}
-use Rattle.octets.specs.Bytes.{be16, part, allZero}
+use Rattle.octets.specs.Bytes.{be16, part, all_zero}
 use Rattle.des.specs.Claims.{SameButParity}
 use Rattle.refusal.specs.House.{house, gives}
 use Rattle.authentication.specs.declared.Derived.{Derived}
 use Rattle.authentication.specs.declared.Built.{Built}
 use Rattle.authentication.specs.declared.Checked.{Checked}
-use Rattle.authentication.specs.Mac.{macString, mac}
-use Rattle.authentication.specs.Keys.{odd, sessionKeys, derivedAs, Derives}
-use Rattle.authentication.specs.Unit.{unit_of, built, buffer, builtAs, Builds, checked, checkedAs, data_of}
+use Rattle.authentication.specs.Mac.{mac_string, mac}
+use Rattle.authentication.specs.Keys.{odd, session_keys, derived_as, Derives}
+use Rattle.authentication.specs.Unit.{unit_of, built, buffer, built_as, Builds, checked, checked_as, data_of}
 
 -- ---- the string of the MAC (SUBSET-037-2, 6.2.2.3 and 6.2.3.2.1.5 to .7)
 
@@ -23,17 +23,17 @@ pub record TellsPair (destination m s : List ℕ) : Type 0 where
   -- the unit without its MAC
   pub unit : part s 5 (length m) ≡ m
   -- and then zeros alone, fewer than eight, up to a whole number of blocks of eight bytes
-  pub zeros : allZero (drop (length m + 5) s) ≡ true
+  pub zeros : all_zero (drop (length m + 5) s) ≡ true
   pub few : length s < length m + 5 + 8
   pub whole : length s % 8 ≡ 0
 
 -- the padded string tells the pair that it was made of. A unit without its MAC has 1 to 1,024 bytes; it is so whatever the length
 pub record StringTells : Type 0 where
-  pub string : (destination m : List ℕ) → length destination ≡ 3 → TellsPair destination m (macString destination m)
+  pub string : (destination m : List ℕ) → length destination ≡ 3 → TellsPair destination m (mac_string destination m)
 
 -- and so padding makes no two messages alike: two pairs of destination and unit without MAC that have the same padded string are the same pair. Different strings may still have equal MACs: a MAC has 64 bits
 pub record OnePair : Type 0 where
-  pub pair : (destination destination' m m' : List ℕ) → length destination ≡ 3 → length destination' ≡ 3 → macString destination m ≡ macString destination' m'
+  pub pair : (destination destination' m m' : List ℕ) → length destination ≡ 3 → length destination' ≡ 3 → mac_string destination m ≡ mac_string destination' m'
       → (destination ≡ destination') × (m ≡ m')
 
 -- ---- parity bits of a key (SUBSET-037-2, 6.2.3.2.1.4)
@@ -48,7 +48,7 @@ pub record ParityFreeCalls : Type 0 where
   pub builds : (a b destination : List ℕ) (direction : Bool) (user out : List ℕ) → SameButParity a b → (after after' : List ℕ) (r r' : Built)
       → Builds a destination direction user out after r → Builds b destination direction user out after' r' → (r ≡ r') × (after ≡ after')
   pub checks : (a b unit destination : List ℕ) (direction : Bool) → SameButParity a b → (r r' : Checked)
-      → checkedAs r ≡ checked unit a destination direction → checkedAs r' ≡ checked unit b destination direction → r ≡ r'
+      → checked_as r ≡ checked unit a destination direction → checked_as r' ≡ checked unit b destination direction → r ≡ r'
   pub hands_out : (a b unit destination : List ℕ) (direction : Bool) → SameButParity a b → data_of (checked unit a destination direction) unit ≡ data_of (checked unit b destination direction) unit
   pub derives : (a b ra rb : List ℕ) → SameButParity a b → (r r' : Derived) (key key' : List ℕ) → Derives a ra rb r key → Derives b ra rb r' key' → (r ≡ r') × (key ≡ key')
 
@@ -64,12 +64,12 @@ pub record IsBuilt (unit key destination : List ℕ) (direction : Bool) (d : Lis
   pub triple : length key ≡ 24
   pub some : 1 ≤ length d
   pub most : length d ≤ 1023
-  pub unit-is : unit ≡ unit_of key destination direction d
+  pub unit_is : unit ≡ unit_of key destination direction d
 
 -- demand 2: a unit is accepted, with d handed out, exactly when it is the unit that is built from d
 pub record AcceptedExactlyBuilt : Type 0 where
-  pub accepted-built : (unit key destination : List ℕ) (direction : Bool) (d : List ℕ) → Accepts unit key destination direction d → IsBuilt unit key destination direction d
-  pub built-accepted : (unit key destination : List ℕ) (direction : Bool) (d : List ℕ) → IsBuilt unit key destination direction d → Accepts unit key destination direction d
+  pub accepted_built : (unit key destination : List ℕ) (direction : Bool) (d : List ℕ) → Accepts unit key destination direction d → IsBuilt unit key destination direction d
+  pub built_accepted : (unit key destination : List ℕ) (direction : Bool) (d : List ℕ) → IsBuilt unit key destination direction d → Accepts unit key destination direction d
 
 -- and so what build writes, check accepts, and hands back the data unchanged
 pub record WrittenAccepted : Type 0 where
@@ -85,13 +85,13 @@ pub record RefusedBuildWritesNothing : Type 0 where
 
 -- every byte of the session keys has odd parity, by its lowest bit alone
 pub record OddParity : Type 0 where
-  pub keys : (kmac ra rb : List ℕ) (i : ℕ) → i < 24 → ones (get_or (sessionKeys kmac ra rb) i 0) % 2 ≡ 1
+  pub keys : (kmac ra rb : List ℕ) (i : ℕ) → i < 24 → ones (get_or (session_keys kmac ra rb) i 0) % 2 ≡ 1
   pub others : (b : ℕ) → odd b / 2 ≡ b / 2
 
 -- ---- answers
 
 -- the paper's numbers are those of one answer only: a contract that fixes them fixes the answer
 pub record OneAnswer : Type 0 where
-  pub of-keys : (a b : Derived) → derivedAs a ≡ derivedAs b → a ≡ b
-  pub of-build : (a b : Built) → builtAs a ≡ builtAs b → a ≡ b
-  pub of-check : (a b : Checked) → checkedAs a ≡ checkedAs b → a ≡ b
+  pub of_keys : (a b : Derived) → derived_as a ≡ derived_as b → a ≡ b
+  pub of_build : (a b : Built) → built_as a ≡ built_as b → a ≡ b
+  pub of_check : (a b : Checked) → checked_as a ≡ checked_as b → a ≡ b

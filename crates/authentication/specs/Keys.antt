@@ -2,10 +2,10 @@
 -- Assumes nothing.
 use Rattle.std.specs.Prelude.{◌≡◌, List, ◌++◌, map, ℕ, ◌+◌, ◌*◌, ◌/◌, ◌%◌, eqb, length, take, drop, replicate}
 use Rattle.std.specs.Int.Count.{ones}
-use Rattle.des.specs.Bits.{bits, bitsOfBytes, bytesOfBits}
-use Rattle.des.specs.Des.{encipherBits, decipherBits}
+use Rattle.des.specs.Bits.{bits, bits_of_bytes, bytes_of_bits}
+use Rattle.des.specs.Des.{encipher_bits, decipher_bits}
 use Rattle.des.specs.Words.{Keys}
-use Rattle.refusal.specs.House.{Answer, house, gives, asks, houseNumber, unlessRefused}
+use Rattle.refusal.specs.House.{Answer, house, gives, asks, house_number, unless_refused}
 use Rattle.authentication.specs.Mac.{block}
 use Rattle.authentication.specs.declared.Derived.{Derived}
 use Rattle.authentication.specs.declared.Derived.TheVariants.{Made, Refused}
@@ -14,14 +14,14 @@ use Rattle.authentication.specs.declared.Derived.TheVariants.{Made, Refused}
 
 -- the left and the right 32 bits of a random number (6.2.3.2.3.14)
 unfoldable pub left : List ℕ → List ℕ
-left r = take 32 (bitsOfBytes r)
+left r = take 32 (bits_of_bytes r)
 
 unfoldable pub right : List ℕ → List ℕ
-right r = drop 32 (bitsOfBytes r)
+right r = drop 32 (bits_of_bytes r)
 
 -- DES (K3, DES⁻¹ (K2, DES (K1, x)))
 unfoldable pub triple : List ℕ → List ℕ → List ℕ → List ℕ → List ℕ
-triple k1 k2 k3 x = encipherBits k3 (decipherBits k2 (encipherBits k1 x))
+triple k1 k2 k3 x = encipher_bits k3 (decipher_bits k2 (encipher_bits k1 x))
 
 -- KS1, KS2 and KS3 (6.2.3.2.3.15): the third has the keys in the reverse order, and the left halves again
 unfoldable pub ks1 : List ℕ → List ℕ → List ℕ → List ℕ
@@ -38,23 +38,23 @@ unfoldable pub odd : ℕ → ℕ
 odd b = b / 2 * 2 + (ones (b / 2) + 1) % 2
 
 -- KS1 | KS2 | KS3, each byte with odd parity
-unfoldable pub sessionKeys : List ℕ → List ℕ → List ℕ → List ℕ
-sessionKeys kmac ra rb = map odd (bytesOfBits 8 (ks1 kmac ra rb) ++ (bytesOfBits 8 (ks2 kmac ra rb) ++ bytesOfBits 8 (ks3 kmac ra rb)))
+unfoldable pub session_keys : List ℕ → List ℕ → List ℕ → List ℕ
+session_keys kmac ra rb = map odd (bytes_of_bits 8 (ks1 kmac ra rb) ++ (bytes_of_bits 8 (ks2 kmac ra rb) ++ bytes_of_bits 8 (ks3 kmac ra rb)))
 
 -- ---- the call
 
 -- the answer in the paper's numbers: H13, or made
-abbrev pub derivedAs : Derived → Answer
-derivedAs Made = gives 0
-derivedAs (Refused h) = house (houseNumber h)
+abbrev pub derived_as : Derived → Answer
+derived_as Made = gives 0
+derived_as (Refused h) = house (house_number h)
 
 unfoldable pub derived : List ℕ → Answer
 derived kmac = asks (eqb (length kmac) 24) 13 (gives 0)
 
 pub record Derives (kmac ra rb : List ℕ) (answer : Derived) (key : List ℕ) : Type 0 where
-  pub said : derivedAs answer ≡ derived kmac
+  pub said : derived_as answer ≡ derived kmac
   -- the 24 bytes beside it: zeros where it is refused
-  pub made : key ≡ unlessRefused (derived kmac) (sessionKeys kmac ra rb) (replicate 24 0)
+  pub made : key ≡ unless_refused (derived kmac) (session_keys kmac ra rb) (replicate 24 0)
 
 -- ---- inside
 

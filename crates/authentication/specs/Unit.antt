@@ -2,7 +2,7 @@
 -- Assumes nothing.
 use Rattle.std.specs.Prelude.{◌≡◌, Bool, true, false, ◌&&◌, List, [], ◌∷◌, ◌++◌, ℕ, ◌+◌, ◌-◌, ◌*◌, ◌/◌, ◌%◌, eqb, leb, length, get_or, take, drop}
 use Rattle.octets.specs.Bytes.{between, part, splice, same}
-use Rattle.refusal.specs.House.{Answer, house, gives, asks, houseNumber, unlessRefused}
+use Rattle.refusal.specs.House.{Answer, house, gives, asks, house_number, unless_refused}
 use Rattle.authentication.specs.Mac.{mac}
 use Rattle.authentication.specs.declared.Checked.{Checked}
 use Rattle.authentication.specs.declared.Checked.TheVariants as checked-as
@@ -17,12 +17,12 @@ flag true = 1
 flag false = 0
 
 -- the first byte: ETY three bits, MTI four, direction flag one
-abbrev pub firstByte : ℕ → ℕ → ℕ → ℕ
-firstByte ety mti df = ety * 32 + mti * 2 + df
+abbrev pub first_byte : ℕ → ℕ → ℕ → ℕ
+first_byte ety mti df = ety * 32 + mti * 2 + df
 
 -- that of a DT unit: ETY 000, MTI 0101 (002, Tables 7 and 12)
 abbrev pub header : Bool → ℕ
-header direction = firstByte 0 5 (flag direction)
+header direction = first_byte 0 5 (flag direction)
 
 -- the unit without its MAC, and with it
 unfoldable pub message : Bool → List ℕ → List ℕ
@@ -43,15 +43,15 @@ built key user out =
 
 -- what the buffer holds afterwards: the unit and behind it the old bytes, or the old bytes alone
 abbrev pub buffer : Answer → List ℕ → List ℕ → List ℕ
-buffer a unit out = unlessRefused a (splice out 0 unit) out
+buffer a unit out = unless_refused a (splice out 0 unit) out
 
 -- the answer in the paper's numbers
-abbrev pub builtAs : Built → Answer
-builtAs (built-as.Written n) = gives n
-builtAs (built-as.Refused h) = house (houseNumber h)
+abbrev pub built_as : Built → Answer
+built_as (built-as.Written n) = gives n
+built_as (built-as.Refused h) = house (house_number h)
 
 pub record Builds (key destination : List ℕ) (direction : Bool) (user out after : List ℕ) (r : Built) : Type 0 where
-  pub answer : builtAs r ≡ built key user out
+  pub answer : built_as r ≡ built key user out
   pub written : after ≡ buffer (built key user out) (unit_of key destination direction user) out
 
 -- ---- checking
@@ -60,30 +60,30 @@ pub record Builds (key destination : List ℕ) (direction : Bool) (user out afte
 unfoldable pub body : List ℕ → List ℕ
 body unit = take (length unit - 8) unit
 
-unfoldable pub macOf : List ℕ → List ℕ
-macOf unit = drop (length unit - 8) unit
+unfoldable pub mac_of : List ℕ → List ℕ
+mac_of unit = drop (length unit - 8) unit
 
 -- ETY, MTI and direction of a first byte are those of a DT unit of this direction
-unfoldable pub rightHeader : Bool → ℕ → Bool
-rightHeader direction b = eqb (b / 32) 0 && (eqb (b / 2 % 16) 5 && eqb (b % 2) (flag direction))
+unfoldable pub right_header : Bool → ℕ → Bool
+right_header direction b = eqb (b / 32) 0 && (eqb (b / 2 % 16) 5 && eqb (b % 2) (flag direction))
 
 -- there is user data, and ETY, MTI and direction are right
-abbrev pub rightContents : Bool → List ℕ → Bool
-rightContents direction unit = leb 10 (length unit) && rightHeader direction (get_or unit 0 0)
+abbrev pub right_contents : Bool → List ℕ → Bool
+right_contents direction unit = leb 10 (length unit) && right_header direction (get_or unit 0 0)
 
 -- H13, H7, H8, H9, or the length of the user data
 unfoldable pub checked : List ℕ → List ℕ → List ℕ → Bool → Answer
 checked unit key destination direction =
     asks (eqb (length key) 24) 13
     (asks (between 9 1032 (length unit)) 7
-    (asks (same (mac key destination (body unit)) (macOf unit)) 8
-    (asks (rightContents direction unit) 9
+    (asks (same (mac key destination (body unit)) (mac_of unit)) 8
+    (asks (right_contents direction unit) 9
     (gives (length unit - 9)))))
 
 -- the answer in the paper's numbers
-abbrev pub checkedAs : Checked → Answer
-checkedAs (checked-as.Accepted n) = gives n
-checkedAs (checked-as.Refused h) = house (houseNumber h)
+abbrev pub checked_as : Checked → Answer
+checked_as (checked-as.Accepted n) = gives n
+checked_as (checked-as.Refused h) = house (house_number h)
 
 -- the user data, the part of the unit after its first byte; none where it is refused
 abbrev pub data_of : Answer → List ℕ → List ℕ

@@ -2,16 +2,16 @@
 ghost use Rattle.std.specs.Prelude.{◌≡◌, ◌+◌, ◌*◌, ◌/◌, ◌<◌, length};
 ghost use Rattle.octets.specs.Bytes.{bytes};
 ghost use Rattle.des.specs.Words.{Keys};
-ghost use Rattle.fast_des.specs.Joined.{joined, pc2Groups};
+ghost use Rattle.fast_des.specs.Joined.{joined, pc2_groups};
 ghost use Rattle.fast_des.specs.Inside.{Entered};
-ghost use Rattle.authentication.specs.Mac.{block, chain, macString, mac};
+ghost use Rattle.authentication.specs.Mac.{block, chain, mac_string, mac};
 
 use crate::string::{blocks, string_word};
 use fast_des::Halves;
 
 // The schedule of the DES key n of a triple key.
 pub fn schedule_at(key: &[u8], n: usize, groups: &[u64]) -> [u64; 16]
-    requires { (length key.now ≡ 24) × ((n < 3) × (groups.now ≡ pc2Groups)) }
+    requires { (length key.now ≡ 24) × ((n < 3) × (groups.now ≡ pc2_groups)) }
     ensures { Keys (block key.now n) result }
 {
     fast_des::schedule_by(octets::get64_at(key, 8 * n), groups)
@@ -19,8 +19,8 @@ pub fn schedule_at(key: &[u8], n: usize, groups: &[u64]) -> [u64; 16]
 
 // The string's blocks chained under the first key, without the permutations between them. A block is permuted before the chain gets to it.
 fn chain_halves(key: &[u8], destination: [u8; 3], m: &[u8], groups: &[u64], table: &[u64]) -> Halves
-    requires { (length key.now ≡ 24) × ((groups.now ≡ pc2Groups) × (table.now ≡ joined)) }
-    ensures { Entered result (chain (block key.now 0) (macString destination m.now) ((length m.now + 12) / 8)) }
+    requires { (length key.now ≡ 24) × ((groups.now ≡ pc2_groups) × (table.now ≡ joined)) }
+    ensures { Entered result (chain (block key.now 0) (mac_string destination m.now) ((length m.now + 12) / 8)) }
 {
     let keys = schedule_at(key, 0, groups);
     let last = blocks(m) - 1;

@@ -3,7 +3,7 @@ ghost use Rattle.std.specs.Prelude.{◌≡◌, ◌++◌, map, length, take, drop
 ghost use Rattle.octets.specs.Bytes.{bytes};
 ghost use Rattle.des.specs.Bits.{bits};
 ghost use Rattle.fast_des.specs.Joined.{joined};
-ghost use Rattle.authentication.specs.Keys.{odd as oddOf, sessionKeys, Triples, Drawn};
+ghost use Rattle.authentication.specs.Keys.{odd as oddOf, session_keys, Triples, Drawn};
 
 use crate::cbc::schedule_at;
 use fast_des::Three;
@@ -97,7 +97,7 @@ fn set_parity(d: [u8; 24]) -> [u8; 24]
 
 pub fn derive(kmac: &[u8], ra: [u8; 8], rb: [u8; 8]) -> [u8; 24]
     requires { length kmac.now ≡ 24 }
-    ensures { result ≡ sessionKeys kmac.now ra rb }
+    ensures { result ≡ session_keys kmac.now ra rb }
 {
     let a = des::load(ra);
     let b = des::load(rb);

@@ -3,7 +3,7 @@ ghost use Rattle.std.specs.Prelude.{◌≡◌};
 ghost use Rattle.octets.specs.Bytes.{same};
 ghost use Rattle.authentication.specs.Mac.{mac};
 ghost use Rattle.authentication.specs.Keys.{Derives};
-ghost use Rattle.authentication.specs.Unit.{Builds, checkedAs, checked, data_of};
+ghost use Rattle.authentication.specs.Unit.{Builds, checked_as, checked, data_of};
 
 use crate::cbc::mac_word;
 use crate::keys::derive;
@@ -98,7 +98,7 @@ pub enum Checked {
 
 // Judges a unit: its length, its MAC, and then its contents. Refuses H13, H7, H8, H9.
 pub fn check(unit: &[u8], key: &[u8], destination: [u8; 3], direction: bool) -> Checked
-    ensures { checkedAs result ≡ checked unit.now key.now destination direction }
+    ensures { checked_as result ≡ checked unit.now key.now destination direction }
 {
     if key.len() != KEY {
         return Checked::Refused(Refusal::KeyLength);

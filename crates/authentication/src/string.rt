@@ -1,7 +1,7 @@
 // The string l | DA | m | p that the MAC is made of, block by block: it is nowhere copied.
 ghost use Rattle.std.specs.Prelude.{◌≡◌, ◌+◌, ◌*◌, ◌/◌, ◌<◌, length, get_or};
 ghost use Rattle.octets.specs.Bytes.{number};
-ghost use Rattle.authentication.specs.Mac.{unpadded, macString};
+ghost use Rattle.authentication.specs.Mac.{unpadded, mac_string};
 
 // Byte i of l | DA | m, and zero behind it, as the padding is.
 fn string_byte(i: usize, destination: [u8; 3], m: &[u8]) -> u64
@@ -31,7 +31,7 @@ pub fn blocks(m: &[u8]) -> usize
 // Block k of l | DA | m | p, as a word, byte by byte.
 pub fn word_by_bytes(k: usize, destination: [u8; 3], m: &[u8]) -> u64
     requires { k < (length m.now + 12) / 8 }
-    ensures { result ≡ number 8 (macString destination m.now) (8 * k) }
+    ensures { result ≡ number 8 (mac_string destination m.now) (8 * k) }
 {
     let mut r: u64 = 0;
     let mut i: usize = 0;
@@ -45,7 +45,7 @@ pub fn word_by_bytes(k: usize, destination: [u8; 3], m: &[u8]) -> u64
 // The same, at once where the block lies whole in m.
 pub fn string_word(k: usize, destination: [u8; 3], m: &[u8]) -> u64
     requires { k < (length m.now + 12) / 8 }
-    ensures { result ≡ number 8 (macString destination m.now) (8 * k) }
+    ensures { result ≡ number 8 (mac_string destination m.now) (8 * k) }
 {
     if 1 <= k && 8 * k + 3 <= m.len() {
         return octets::get64_at(m, 8 * k - 5);

@@ -2,7 +2,7 @@
 ghost use Rattle.std.specs.Prelude.{◌≡◌, ◌+◌, ◌≤◌, length, take};
 ghost use Rattle.octets.specs.Bytes.{splice, same};
 ghost use Rattle.authentication.specs.Mac.{mac};
-ghost use Rattle.authentication.specs.Unit.{flag as flagOf, header as headerOf, message, unit_of, body, macOf, rightHeader, rightContents};
+ghost use Rattle.authentication.specs.Unit.{flag as flagOf, header as headerOf, message, unit_of, body, mac_of, right_header, right_contents};
 
 use crate::UNIT_LEAST;
 use crate::cbc::mac_word;
@@ -35,7 +35,7 @@ fn header(direction: bool) -> u8
 
 // And taken apart.
 fn header_right(b: u8, direction: bool) -> bool
-    ensures { result ≡ rightHeader direction b }
+    ensures { result ≡ right_header direction b }
 {
     let df = flag(direction);
     if b >> 5 != ETY {
@@ -61,14 +61,14 @@ pub fn is_mac(key: &[u8], destination: [u8; 3], message: &[u8], sent: &[u8]) -> 
 
 pub fn mac_right(unit: &[u8], key: &[u8], destination: [u8; 3]) -> bool
     requires { (length key.now ≡ 24) × (9 ≤ length unit.now) }
-    ensures { result ≡ same (mac key.now destination (body unit.now)) (macOf unit.now) }
+    ensures { result ≡ same (mac key.now destination (body unit.now)) (mac_of unit.now) }
 {
     let n = unit.len() - MAC;
     is_mac(key, destination, &unit[..n], &unit[n..])
 }
 
 pub fn contents_right(unit: &[u8], direction: bool) -> bool
-    ensures { result ≡ rightContents direction unit.now }
+    ensures { result ≡ right_contents direction unit.now }
 {
     if unit.len() <= UNIT_LEAST {
         return false;

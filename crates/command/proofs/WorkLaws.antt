@@ -18,12 +18,12 @@ use Rattle.store.specs.Request.{after, Work, work}
 use Rattle.store.specs.WellFormed.{WellFormed}
 use Rattle.store.proofs.DecodeLaws.{encode-entries}
 use Rattle.store.proofs.EncodeLaws.{entries-encode, encode-sound}
-use Rattle.store.proofs.WellFormedLaws.{sound-wellFormed}
-use Rattle.store.proofs.RequestLaws.{after-wellFormed}
+use Rattle.store.proofs.WellFormedLaws.{sound-well_formed}
+use Rattle.store.proofs.RequestLaws.{after-well_formed}
 use Rattle.requests.specs.Worked.{Worked}
 use Rattle.message.specs.declared.Command.{Command}
 use Rattle.message.proofs.ReadableLaws.{fields_fit, fields-rest, readable-at}
-use Rattle.message.specs.Body.{size_at, fieldsOk, fieldsFrom, requestAt, requestsFrom}
+use Rattle.message.specs.Body.{size_at, fields_ok, fields_from, request_at, requests_from}
 use Rattle.command.specs.Works.{Works}
 
 -- a RESULT written in front of those that are to come
@@ -33,35 +33,35 @@ splice-one d i x v h =
 
 module _ (L : Limits) (own : ℕ) (k : Command) (m : List ℕ) where
   -- the work of the n requests from index i on, on the entries es
-  abbrev workFrom : ℕ → ℕ → List Entry → Work
-  workFrom i n es = work L own (requestsFrom k m i n) es
+  abbrev work_from : ℕ → ℕ → List Entry → Work
+  work_from i n es = work L own (requests_from k m i n) es
 
-  pub results-length : (n i : ℕ) (es : List Entry) → length (workFrom i n es).results ≡ n
-  unfolding work requestsFrom
+  pub results-length : (n i : ℕ) (es : List Entry) → length (work_from i n es).results ≡ n
+  unfolding work requests_from
   results-length zero i es = refl
-  results-length (suc n) i es = ap suc (results-length n (i + size_at k m i) (after L own (requestAt k m i) es))
+  results-length (suc n) i es = ap suc (results-length n (i + size_at k m i) (after L own (request_at k m i) es))
 
   module _ (n : ℕ) (s₀ out₀ : List ℕ) where
     -- j requests are done, and the next stands at index i
     pub record Going (i j : ℕ) (s out : List ℕ) : Type 0 where
       pub well : WellFormed L (entries L s)
       pub whole : s ≡ encode L (entries L s)
-      pub fields : fieldsFrom k m i (n - j) ≡ true
-      pub to-store : (workFrom 22 n (entries L s₀)).left ≡ (workFrom i (n - j) (entries L s)).left
-      pub to-output : splice out₀ 23 (workFrom 22 n (entries L s₀)).results ≡ splice out (23 + j) (workFrom i (n - j) (entries L s)).results
+      pub fields : fields_from k m i (n - j) ≡ true
+      pub to-store : (work_from 22 n (entries L s₀)).left ≡ (work_from i (n - j) (entries L s)).left
+      pub to-output : splice out₀ 23 (work_from 22 n (entries L s₀)).results ≡ splice out (23 + j) (work_from i (n - j) (entries L s)).results
 
-    pub going_start : Bytes s₀ → sound L s₀ ≡ true → fieldsFrom k m 22 n ≡ true → Going 22 0 s₀ out₀
+    pub going_start : Bytes s₀ → sound L s₀ ≡ true → fields_from k m 22 n ≡ true → Going 22 0 s₀ out₀
     going_start b h f =
         record {
-          well = sound-wellFormed L s₀ b h;
+          well = sound-well_formed L s₀ b h;
           whole = encode-entries L s₀ b h;
           fields = rw sub-zero f;
           to-store = rw sub-zero;
           to-output = rw sub-zero;
         }
 
-    pub going-sound : Bounded L → (i j : ℕ) (s out : List ℕ) → Going i j s out → sound L s ≡ true
-    going-sound bd i j s out w = ap (sound L) w.whole ∙ encode-sound L (entries L s) bd w.well
+    pub going_sound : Bounded L → (i j : ℕ) (s out : List ℕ) → Going i j s out → sound L s ≡ true
+    going_sound bd i j s out w = ap (sound L) w.whole ∙ encode-sound L (entries L s) bd w.well
 
     module _ (i j : ℕ) (s out : List ℕ) (w : Going i j s out) (l : j < n) where
       left : ℕ
@@ -71,45 +71,45 @@ module _ (L : Limits) (own : ℕ) (k : Command) (m : List ℕ) where
       unfolding left
       step = omega arith
 
-      next : fieldsFrom k m i (suc left) ≡ true
-      next = sym (ap (λ (x : ℕ). fieldsFrom k m i x) step) ∙ w.fields
+      next : fields_from k m i (suc left) ≡ true
+      next = sym (ap (λ (x : ℕ). fields_from k m i x) step) ∙ w.fields
 
-      pub next-ok : fieldsOk k m i ≡ true
-      unfolding fieldsFrom
-      next-ok = and_left (fieldsOk k m i) (leb (i + size_at k m i) (length m) && fieldsFrom k m (i + size_at k m i) left) next
+      pub next-ok : fields_ok k m i ≡ true
+      unfolding fields_from
+      next-ok = and_left (fields_ok k m i) (leb (i + size_at k m i) (length m) && fields_from k m (i + size_at k m i) left) next
 
       pub next_fits : i + size_at k m i ≤ length m
       next_fits = fields_fit k m left i next
 
-      pub going-turn : Bounded L → Bytes m → length out ≡ length out₀ → 23 + n ≤ length out₀ → (size r : ℕ) (t : List ℕ) → size ≡ size_at k m i
-          → Worked L own (requestAt k m i) s t r → Going (i + size) (j + 1) t (set out (23 + j) r)
-      unfolding work requestsFrom left
-      going-turn bd b lo ho size r t es q =
-          let a : List Entry = after L own (requestAt k m i) (entries L s) in
-          let g : WellFormed L a = after-wellFormed L own (entries L s) w.well (requestAt k m i) (readable-at k m b i next_fits) in
+      pub going_turn : Bounded L → Bytes m → length out ≡ length out₀ → 23 + n ≤ length out₀ → (size r : ℕ) (t : List ℕ) → size ≡ size_at k m i
+          → Worked L own (request_at k m i) s t r → Going (i + size) (j + 1) t (set out (23 + j) r)
+      unfolding work requests_from left
+      going_turn bd b lo ho size r t es q =
+          let a : List Entry = after L own (request_at k m i) (entries L s) in
+          let g : WellFormed L a = after-well_formed L own (entries L s) w.well (request_at k m i) (readable-at k m b i next_fits) in
           let ee : entries L t ≡ a = ap (entries L) q.store_is ∙ entries-encode L a bd g in
-          let v : List ℕ = (workFrom (i + size_at k m i) left a).results in
+          let v : List ℕ = (work_from (i + size_at k m i) left a).results in
           let lv : length v ≡ left = results-length left (i + size_at k m i) a in
           record {
             well = subst (WellFormed L) (sym ee) g;
             whole = q.store_is ∙ ap (encode L) (sym ee);
-            fields = ap (λ (x : ℕ). fieldsFrom k m (i + x) left) es ∙ fields-rest k m left i next;
-            to-store = w.to-store ∙ ap (λ (x : ℕ). (workFrom i x (entries L s)).left) step
-                ∙ ap (λ (x : List Entry). (workFrom (i + size_at k m i) left x).left) (sym ee)
-                ∙ ap (λ (x : ℕ). (workFrom (i + x) left (entries L t)).left) (sym es);
-            to-output = w.to-output ∙ ap (λ (x : ℕ). splice out (23 + j) (workFrom i x (entries L s)).results) step
-                ∙ ap (λ (x : ℕ). splice out (23 + j) (x ∷ v)) (sym q.result-is)
+            fields = ap (λ (x : ℕ). fields_from k m (i + x) left) es ∙ fields-rest k m left i next;
+            to-store = w.to-store ∙ ap (λ (x : ℕ). (work_from i x (entries L s)).left) step
+                ∙ ap (λ (x : List Entry). (work_from (i + size_at k m i) left x).left) (sym ee)
+                ∙ ap (λ (x : ℕ). (work_from (i + x) left (entries L t)).left) (sym es);
+            to-output = w.to-output ∙ ap (λ (x : ℕ). splice out (23 + j) (work_from i x (entries L s)).results) step
+                ∙ ap (λ (x : ℕ). splice out (23 + j) (x ∷ v)) (sym q.result_is)
                 ∙ splice-one out (23 + j) r v (omega arith)
-                ∙ ap (λ (x : List Entry). splice (set out (23 + j) r) (23 + j + 1) (workFrom (i + size_at k m i) left x).results) (sym ee)
-                ∙ ap (λ (x : ℕ). splice (set out (23 + j) r) (23 + j + 1) (workFrom (i + x) left (entries L t)).results) (sym es)
-                ∙ ap (λ (x : ℕ). splice (set out (23 + j) r) x (workFrom (i + size) left (entries L t)).results) (add_assoc 23 j 1);
+                ∙ ap (λ (x : List Entry). splice (set out (23 + j) r) (23 + j + 1) (work_from (i + size_at k m i) left x).results) (sym ee)
+                ∙ ap (λ (x : ℕ). splice (set out (23 + j) r) (23 + j + 1) (work_from (i + x) left (entries L t)).results) (sym es)
+                ∙ ap (λ (x : ℕ). splice (set out (23 + j) r) x (work_from (i + size) left (entries L t)).results) (add_assoc 23 j 1);
           }
 
     pub going_end : (i j : ℕ) (s out : List ℕ) → Going i j s out → n ≤ j → Works L own k m n s₀ s out₀ out
-    unfolding work requestsFrom
+    unfolding work requests_from
     going_end i j s out w l =
         let z : n - j ≡ 0 = omega arith in
         record {
-          store_is = w.whole ∙ ap (encode L) (sym (w.to-store ∙ ap (λ (x : ℕ). (workFrom i x (entries L s)).left) z));
-          output-is = sym (w.to-output ∙ ap (λ (x : ℕ). splice out (23 + j) (workFrom i x (entries L s)).results) z ∙ splice-none out (23 + j));
+          store_is = w.whole ∙ ap (encode L) (sym (w.to-store ∙ ap (λ (x : ℕ). (work_from i x (entries L s)).left) z));
+          output_is = sym (w.to-output ∙ ap (λ (x : ℕ). splice out (23 + j) (work_from i x (entries L s)).results) z ∙ splice-none out (23 + j));
         }

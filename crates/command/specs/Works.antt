@@ -9,15 +9,15 @@ use Rattle.requests.specs.declared.Addition.{Addition}
 use Rattle.requests.specs.Worked.{addition}
 use Rattle.message.specs.declared.Command.{Command}
 use Rattle.message.specs.declared.Command.TheVariants.{Adds}
-use Rattle.message.specs.Body.{requestAt, requestsFrom}
+use Rattle.message.specs.Body.{request_at, requests_from}
 
 -- the n requests worked in order: the store s afterwards, and the RESULTs in the output from byte 23
 pub record Works (L : Limits) (own : ℕ) (k : Command) (m : List ℕ) (n : ℕ) (s after out written : List ℕ) : Type 0 where
-  pub store_is : after ≡ encode L (work L own (requestsFrom k m 22 n) (entries L s)).left
-  pub output-is : written ≡ splice out 23 (work L own (requestsFrom k m 22 n) (entries L s)).results
+  pub store_is : after ≡ encode L (work L own (requests_from k m 22 n) (entries L s)).left
+  pub output_is : written ≡ splice out 23 (work L own (requests_from k m 22 n) (entries L s)).results
 
 -- the addition that stands in a message at index i
 pub record Reads (m : List ℕ) (i : ℕ) (new : Addition) : Type 0 where
-  pub is : addition new m ≡ requestAt Adds m i
-  pub kmac-inside : new.kmac + 24 ≤ length m
-  pub peers-inside : new.peers + 4 * new.count ≤ length m
+  pub is : addition new m ≡ request_at Adds m i
+  pub kmac_inside : new.kmac + 24 ≤ length m
+  pub peers_inside : new.peers + 4 * new.count ≤ length m

@@ -3,7 +3,7 @@ ghost use Rattle.std.specs.Prelude.{◌≡◌, true, ◌+◌, ◌≤◌, length}
 ghost use Rattle.store.specs.Layout.{Bounded};
 ghost use Rattle.store.specs.Store.{sound};
 ghost use Rattle.requests.specs.Worked.{Worked};
-ghost use Rattle.message.specs.Body.{size_at, fieldsOk, fieldsFrom, requestAt};
+ghost use Rattle.message.specs.Body.{size_at, fields_ok, fields_from, request_at};
 ghost use Rattle.command.specs.Works.{Works, Reads};
 
 use message::body::{REQUESTS_AT, request_size};
@@ -15,7 +15,7 @@ use store::Limits;
 
 // The size of the request at index i, where one stands.
 fn size_at(command: Command, m: &[u8], i: usize) -> usize
-    requires { (fieldsOk command m.now i ≡ true) × (i + size_at command m.now i ≤ length m.now) }
+    requires { (fields_ok command m.now i ≡ true) × (i + size_at command m.now i ≤ length m.now) }
     ensures { result ≡ size_at command m.now i }
 {
     match request_size(command, m, i) {
@@ -47,7 +47,7 @@ fn addition_at(m: &[u8], i: usize) -> Addition
 fn add_one(s: &mut [u8], lim: Limits, own: u32, m: &[u8], i: usize) -> u8
     requires s_value { sound lim s.old ≡ true }
     requires i_in_bounds { i + size_at Command.Adds m.now i ≤ length m.now }
-    ensures { Worked lim own (requestAt Command.Adds m.now i) s.old s.new result }
+    ensures { Worked lim own (request_at Command.Adds m.now i) s.old s.new result }
 {
     let new = addition_at(m, i);
     requests::add(s, lim, own, new, m)
@@ -56,7 +56,7 @@ fn add_one(s: &mut [u8], lim: Limits, own: u32, m: &[u8], i: usize) -> u8
 fn delete_one(s: &mut [u8], lim: Limits, own: u32, m: &[u8], i: usize) -> u8
     requires s_value { sound lim s.old ≡ true }
     requires i_in_bounds { i + size_at Command.Deletes m.now i ≤ length m.now }
-    ensures { Worked lim own (requestAt Command.Deletes m.now i) s.old s.new result }
+    ensures { Worked lim own (request_at Command.Deletes m.now i) s.old s.new result }
 {
     requests::delete(s, lim, get32_at(m, i), get32_at(m, i + 4))
 }
@@ -64,7 +64,7 @@ fn delete_one(s: &mut [u8], lim: Limits, own: u32, m: &[u8], i: usize) -> u8
 fn validity_one(s: &mut [u8], lim: Limits, own: u32, m: &[u8], i: usize) -> u8
     requires s_value { sound lim s.old ≡ true }
     requires i_in_bounds { i + size_at Command.Validities m.now i ≤ length m.now }
-    ensures { Worked lim own (requestAt Command.Validities m.now i) s.old s.new result }
+    ensures { Worked lim own (request_at Command.Validities m.now i) s.old s.new result }
 {
     let issuer = get32_at(m, i);
     let serial = get32_at(m, i + 4);
@@ -76,7 +76,7 @@ fn validity_one(s: &mut [u8], lim: Limits, own: u32, m: &[u8], i: usize) -> u8
 fn entities_one(s: &mut [u8], lim: Limits, own: u32, m: &[u8], i: usize) -> u8
     requires s_value { sound lim s.old ≡ true }
     requires i_in_bounds { i + size_at Command.Entities m.now i ≤ length m.now }
-    ensures { Worked lim own (requestAt Command.Entities m.now i) s.old s.new result }
+    ensures { Worked lim own (request_at Command.Entities m.now i) s.old s.new result }
 {
     let issuer = get32_at(m, i);
     let serial = get32_at(m, i + 4);
@@ -88,7 +88,7 @@ fn entities_one(s: &mut [u8], lim: Limits, own: u32, m: &[u8], i: usize) -> u8
 fn one(s: &mut [u8], lim: Limits, own: u32, command: Command, m: &[u8], i: usize) -> u8
     requires s_value { sound lim s.old ≡ true }
     requires i_in_bounds { i + size_at command m.now i ≤ length m.now }
-    ensures { Worked lim own (requestAt command m.now i) s.old s.new result }
+    ensures { Worked lim own (request_at command m.now i) s.old s.new result }
 {
     match command {
         Command::Adds => add_one(s, lim, own, m, i),
@@ -110,7 +110,7 @@ pub fn work(
 )
     requires bounded { Bounded lim }
     requires s_value { sound lim s.old ≡ true }
-    requires n_value { fieldsFrom command m.now 22 n ≡ true }
+    requires n_value { fields_from command m.now 22 n ≡ true }
     requires n_in_bounds { 23 + n ≤ length out.old }
     ensures { Works lim own command m.now n s.old s.new out.old out.new }
 {

@@ -7,10 +7,10 @@ use native.Mathlib.Omega.{arith}
 use lib.ListN.{length, replicate, set, length-append, length-replicate}
 use Rattle.octets.specs.Bytes.{be32, part, splice}
 use Rattle.octets.proofs.PartLaws.{part_length, part-whole}
-use Rattle.octets.proofs.SpliceLaws.{splice_all, splice-mid}
+use Rattle.octets.proofs.SpliceLaws.{splice_all, splice_mid}
 use Rattle.authentication.specs.Unit.{flag}
 use Rattle.table.specs.declared.Connection.{Connection}
-use Rattle.connection_buffer.specs.ConnectionBuffer.{head, connectionBytes}
+use Rattle.connection_buffer.specs.ConnectionBuffer.{head, connection_bytes}
 
 -- ---- a part, copied out
 
@@ -29,7 +29,7 @@ head-written state role own peer p q = q ∙ ap (λ (b : List ℕ). splice b 8 (
 -- a list of k bytes, copied behind a over as many bytes x
 copied : (a x rest v b s : List ℕ) (i k : ℕ) → length a ≡ i → length x ≡ k → length v ≡ k → b ≡ a ++ (x ++ rest) → s ≡ splice b i (part v 0 k) → s ≡ a ++ (v ++ rest)
 copied a x rest v b s i k p q r e f =
-    f ∙ ap (λ (y : List ℕ). splice y i (part v 0 k)) e ∙ ap (λ (y : List ℕ). splice (a ++ (x ++ rest)) i y) (part-whole v k r) ∙ splice-mid a x rest v i p (q ∙ sym r)
+    f ∙ ap (λ (y : List ℕ). splice y i (part v 0 k)) e ∙ ap (λ (y : List ℕ). splice (a ++ (x ++ rest)) i y) (part-whole v k r) ∙ splice_mid a x rest v i p (q ∙ sym r)
 
 pub filled : (front ra rb key one two three four : List ℕ) → length front ≡ 12 → length ra ≡ 8 → length rb ≡ 8 → length key ≡ 24
     → one ≡ splice (replicate 64 0) 0 (part front 0 12) → two ≡ splice one 12 (part ra 0 8) → three ≡ splice two 20 (part rb 0 8) → four ≡ splice three 28 (part key 0 24)
@@ -51,5 +51,5 @@ filled front ra rb key one two three four l m n o p q r t =
     regroup' a b c d = simp append_assoc
 
 pub bytes-joined : (c : Connection) (role : ℕ) (front r : List ℕ) → role ≡ flag c.responder → front ≡ head c.state role c.own c.peer
-    → r ≡ front ++ (c.ra ++ (c.rb ++ (c.key ++ replicate 12 0))) → r ≡ connectionBytes c
+    → r ≡ front ++ (c.ra ++ (c.rb ++ (c.key ++ replicate 12 0))) → r ≡ connection_bytes c
 bytes-joined c role front r p q e = e ∙ ap (λ (f : List ℕ). f ++ (c.ra ++ (c.rb ++ (c.key ++ replicate 12 0)))) (q ∙ ap (λ (x : ℕ). head c.state x c.own c.peer) p)

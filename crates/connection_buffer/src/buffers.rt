@@ -1,7 +1,7 @@
 // A connection as 64 bytes, and the events of a step as 8.
 ghost use Rattle.std.specs.Prelude.{◌≡◌, ◌++◌, ◌+◌, ◌≤◌, replicate};
 ghost use Rattle.octets.specs.Bytes.{part};
-ghost use Rattle.connection_buffer.specs.ConnectionBuffer.{head, connectionBytes, connectionOf, transportNumber, timerNumber, eventsWith, eventBytes, kindNumber};
+ghost use Rattle.connection_buffer.specs.ConnectionBuffer.{head, connection_bytes, connection_of, transport_number, timer_number, events_with, event_bytes, kind_number};
 
 use table::{
     AR_NUMBER, AU3_NUMBER, Actions, Connection, DT_NUMBER, Kind, Timer, ToTransport, ToUser,
@@ -28,7 +28,7 @@ fn key_of(buffer: &[u8; 64]) -> [u8; 24]
 }
 
 pub fn load(buffer: &[u8; 64]) -> Connection
-    ensures { result ≡ connectionOf buffer.now }
+    ensures { result ≡ connection_of buffer.now }
 {
     let state = buffer[0];
     let responder = buffer[1] != 0;
@@ -71,7 +71,7 @@ fn joined(front: &[u8; 12], ra: &[u8; 8], rb: &[u8; 8], key: &[u8; 24]) -> [u8; 
 }
 
 pub fn bytes_of(c: Connection) -> [u8; 64]
-    ensures { result ≡ connectionBytes c }
+    ensures { result ≡ connection_bytes c }
 {
     let front = head(c.state, flag(c.responder), c.own, c.peer);
     let ra = c.ra;
@@ -83,7 +83,7 @@ pub fn bytes_of(c: Connection) -> [u8; 64]
 // ---- events
 
 fn transport_number(transport: ToTransport) -> u8
-    ensures { result ≡ transportNumber transport }
+    ensures { result ≡ transport_number transport }
 {
     match transport {
         ToTransport::Quiet => 0,
@@ -98,7 +98,7 @@ fn transport_number(transport: ToTransport) -> u8
 }
 
 fn timer_number(timer: Timer) -> u8
-    ensures { result ≡ timerNumber timer }
+    ensures { result ≡ timer_number timer }
 {
     match timer {
         Timer::Keep => 0,
@@ -109,7 +109,7 @@ fn timer_number(timer: Timer) -> u8
 }
 
 fn events_with(user: ToUser, transport: u8, timer: u8, state: u8) -> [u8; 8]
-    ensures { result ≡ eventsWith user transport timer state }
+    ensures { result ≡ events_with user transport timer state }
 {
     match user {
         ToUser::Nothing => [0, transport, timer, state, 0, 0, 0, 0],
@@ -133,7 +133,7 @@ fn events_with(user: ToUser, transport: u8, timer: u8, state: u8) -> [u8; 8]
 }
 
 pub fn events_of(actions: Actions, state: u8) -> [u8; 8]
-    ensures { result ≡ eventBytes actions state }
+    ensures { result ≡ event_bytes actions state }
 {
     let user = actions.user;
     let transport = actions.transport;
@@ -149,7 +149,7 @@ pub fn events_of(actions: Actions, state: u8) -> [u8; 8]
 // ---- the kinds of unit
 
 pub fn kind_number(kind: Kind) -> u8
-    ensures { result ≡ kindNumber kind }
+    ensures { result ≡ kind_number kind }
 {
     match kind {
         Kind::Au3 => AU3_NUMBER,

@@ -4,8 +4,8 @@ ghost use Rattle.std.specs.Prelude.{◌≡◌};
 ghost use Rattle.octets.specs.Bytes.{nonzero};
 ghost use Rattle.refusal.specs.House.{gives};
 ghost use Rattle.refusal.specs.Code.{code};
-ghost use Rattle.table.specs.Steps.{kind_of, connectRequest, connectResponse, dataRequest, disconnectRequest, connectIndication, connectConfirmation, disconnectIndication, unitIndication, timeOut, step, steppedAs, kindNumbered};
-ghost use Rattle.connection_buffer.specs.ConnectionBuffer.{connectionOf, kindNumber, unitLength, Short, connectionAfter, eventsAfter, Tells};
+ghost use Rattle.table.specs.Steps.{kind_of, connect_request, connect_response, data_request, disconnect_request, connect_indication, connect_confirmation, disconnect_indication, unit_indication, time_out, step, stepped_as, kind_numbered};
+ghost use Rattle.connection_buffer.specs.ConnectionBuffer.{connection_of, kind_number, unit_length, Short, connection_after, events_after, Tells};
 
 use crate::buffers::{bytes_of, events_of, kind_number, load};
 use refusal::refusal_code;
@@ -16,10 +16,10 @@ mod buffers;
 
 // What the host is told of a step; a refusal writes nowhere.
 fn tell(taken: Step, connection: &mut [u8; 64], events: &mut [u8; 8]) -> i32
-    requires { Short (steppedAs taken.answer) }
-    ensures value { result ≡ code (unitLength (steppedAs taken.answer)) }
-    ensures connection_after { connection.new ≡ connectionAfter (steppedAs taken.answer) taken.connection connection.old }
-    ensures events_after { events.new ≡ eventsAfter (steppedAs taken.answer) taken.connection events.old }
+    requires { Short (stepped_as taken.answer) }
+    ensures value { result ≡ code (unit_length (stepped_as taken.answer)) }
+    ensures connection_after { connection.new ≡ connection_after (stepped_as taken.answer) taken.connection connection.old }
+    ensures events_after { events.new ≡ events_after (stepped_as taken.answer) taken.connection events.old }
 {
     let answer = taken.answer;
     let then = taken.connection;
@@ -47,7 +47,7 @@ pub fn connect_request(
     events: &mut [u8; 8],
     out: &mut [u8],
 ) -> i32
-    ensures { Tells (step (connectRequest (nonzero acceptable) own peer t rb store.now) (connectionOf connection.old) out.old) result connection.old connection.new events.old events.new out.new }
+    ensures { Tells (step (connect_request (nonzero acceptable) own peer t rb store.now) (connection_of connection.old) out.old) result connection.old connection.new events.old events.new out.new }
 {
     let before = load(connection);
     let taken = setup::request(before, acceptable != 0, own, peer, t, rb, store, out);
@@ -56,7 +56,7 @@ pub fn connect_request(
 
 // Sa-CONNECT.response.
 pub fn connect_response(connection: &mut [u8; 64], events: &mut [u8; 8], out: &mut [u8]) -> i32
-    ensures { Tells (step connectResponse (connectionOf connection.old) out.old) result connection.old connection.new events.old events.new out.new }
+    ensures { Tells (step connect_response (connection_of connection.old) out.old) result connection.old connection.new events.old events.new out.new }
 {
     let before = load(connection);
     let taken = setup::respond(before, out);
@@ -70,7 +70,7 @@ pub fn data_request(
     events: &mut [u8; 8],
     out: &mut [u8],
 ) -> i32
-    ensures { Tells (step (dataRequest user.now) (connectionOf connection.old) out.old) result connection.old connection.new events.old events.new out.new }
+    ensures { Tells (step (data_request user.now) (connection_of connection.old) out.old) result connection.old connection.new events.old events.new out.new }
 {
     let before = load(connection);
     let taken = setup::send(before, user, out);
@@ -85,7 +85,7 @@ pub fn disconnect_request(
     events: &mut [u8; 8],
     out: &mut [u8],
 ) -> i32
-    ensures { Tells (step (disconnectRequest reason sub) (connectionOf connection.old) out.old) result connection.old connection.new events.old events.new out.new }
+    ensures { Tells (step (disconnect_request reason sub) (connection_of connection.old) out.old) result connection.old connection.new events.old events.new out.new }
 {
     let before = load(connection);
     let taken = setup::release(before, reason, sub, out);
@@ -106,7 +106,7 @@ pub fn connect_indication(
     events: &mut [u8; 8],
     out: &mut [u8],
 ) -> i32
-    ensures { Tells (step (connectIndication (nonzero acceptable) own t ra unit.now store.now) (connectionOf connection.old) out.old) result connection.old connection.new events.old events.new out.new }
+    ensures { Tells (step (connect_indication (nonzero acceptable) own t ra unit.now store.now) (connection_of connection.old) out.old) result connection.old connection.new events.old events.new out.new }
 {
     let before = load(connection);
     let taken = setup::indicated(before, acceptable != 0, own, t, ra, unit, store, out);
@@ -120,7 +120,7 @@ pub fn connect_confirmation(
     events: &mut [u8; 8],
     out: &mut [u8],
 ) -> i32
-    ensures { Tells (step (connectConfirmation unit.now) (connectionOf connection.old) out.old) result connection.old connection.new events.old events.new out.new }
+    ensures { Tells (step (connect_confirmation unit.now) (connection_of connection.old) out.old) result connection.old connection.new events.old events.new out.new }
 {
     let before = load(connection);
     let taken = setup::confirmed(before, unit, out);
@@ -135,7 +135,7 @@ pub fn disconnect_indication(
     events: &mut [u8; 8],
     out: &mut [u8],
 ) -> i32
-    ensures { Tells (step (disconnectIndication reason unit.now) (connectionOf connection.old) out.old) result connection.old connection.new events.old events.new out.new }
+    ensures { Tells (step (disconnect_indication reason unit.now) (connection_of connection.old) out.old) result connection.old connection.new events.old events.new out.new }
 {
     let before = load(connection);
     let taken = setup::disconnected(before, reason, unit, out);
@@ -150,7 +150,7 @@ pub fn unit_indication(
     events: &mut [u8; 8],
     out: &mut [u8],
 ) -> i32
-    ensures { Tells (step (unitIndication (kindNumbered kind) unit.now) (connectionOf connection.old) out.old) result connection.old connection.new events.old events.new out.new }
+    ensures { Tells (step (unit_indication (kind_numbered kind) unit.now) (connection_of connection.old) out.old) result connection.old connection.new events.old events.new out.new }
 {
     let before = load(connection);
     let taken = setup::unit(before, setup::kind_numbered(kind), unit, out);
@@ -159,7 +159,7 @@ pub fn unit_indication(
 
 // The kind of a unit, by its first byte.
 pub fn unit_kind(unit: &[u8]) -> i32
-    ensures { result ≡ code (gives (kindNumber (kind_of unit.now))) }
+    ensures { result ≡ code (gives (kind_number (kind_of unit.now))) }
 {
     kind_number(kind_of(unit)) as i32
 }
@@ -168,7 +168,7 @@ pub fn unit_kind(unit: &[u8]) -> i32
 
 // The time-out of T estab.
 pub fn time_out(connection: &mut [u8; 64], events: &mut [u8; 8], out: &mut [u8]) -> i32
-    ensures { Tells (step timeOut (connectionOf connection.old) out.old) result connection.old connection.new events.old events.new out.new }
+    ensures { Tells (step time_out (connection_of connection.old) out.old) result connection.old connection.new events.old events.new out.new }
 {
     let before = load(connection);
     let taken = setup::time_out(before, out);

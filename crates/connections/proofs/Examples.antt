@@ -7,22 +7,22 @@ use Prim.Native.Nat.{ℕ}
 use native.Mathlib.Omega.{arith}
 use lib.Count.{ones}
 use lib.ListN.{replicate, length-replicate}
-use Rattle.octets.specs.Bytes.{part, all_below, allZero}
+use Rattle.octets.specs.Bytes.{part, all_below, all_zero}
 use Rattle.octets.specs.Words.{words, numbers, elem}
-use Rattle.store.specs.Layout.{edition1, editionOf, editionIn}
-use Rattle.store.specs.Store.{encode, header, keyRecord, keyRecords, peersOf, entries, entriesFrom, sound, allHold, headerOk, countsOk, sumsOk, sumBefore, uniqueOk, newKey, parityOk, allOdd, unusedOk}
-use Rattle.store.specs.Search.{latest, findIn, find, key}
-use Rattle.des.specs.Bits.{bits, valueFrom, value, bitsOfBytes, bytesOfBits, xorBits}
-use Rattle.des.specs.Tables.{ip, ipInverse, e, p, pc1, pc2, shifts, sboxes}
-use Rattle.des.specs.Des.{permute, row, column, select, selects, cipherFunction, swap, shiftBoth, shifted, subkey, round, rounds, cipher, encipherBits, decipherBits}
-use Rattle.authentication.specs.Mac.{block, chain, finish, cbcMac, unpadded, padded, macString, mac}
-use Rattle.authentication.specs.Keys.{left, right, triple, ks1, ks2, ks3, odd, sessionKeys}
+use Rattle.store.specs.Layout.{edition1, edition_of, edition_in}
+use Rattle.store.specs.Store.{encode, header, key_record, key_records, peers_of, entries, entries_from, sound, all_hold, header_ok, counts_ok, sums_ok, sum_before, unique_ok, new_key, parity_ok, all_odd, unused_ok}
+use Rattle.store.specs.Search.{latest, find_in, find, key}
+use Rattle.des.specs.Bits.{bits, value_from, value, bits_of_bytes, bytes_of_bits, xor_bits}
+use Rattle.des.specs.Tables.{ip, ip_inverse, e, p, pc1, pc2, shifts, sboxes}
+use Rattle.des.specs.Des.{permute, row, column, select, selects, cipher_function, swap, shift_both, shifted, subkey, round, rounds, cipher, encipher_bits, decipher_bits}
+use Rattle.authentication.specs.Mac.{block, chain, finish, cbc_mac, unpadded, padded, mac_string, mac}
+use Rattle.authentication.specs.Keys.{left, right, triple, ks1, ks2, ks3, odd, session_keys}
 use Rattle.authentication.specs.Unit.{message, unit_of}
-use Rattle.units.specs.Units.{etcsId, au1Unit, au2Text, au2Mac, au2Unit, au3Mac, au3Unit, arMac, arUnit}
+use Rattle.units.specs.Units.{etcs_id, au1_unit, au2_text, au2_mac, au2_unit, au3_mac, au3_unit, ar_mac, ar_unit}
 use Rattle.table.specs.declared.Connection.{Connection}
-use Rattle.table.specs.Steps.{found, dataRequest, step}
-use Rattle.connections.specs.Runs.{Sides, unitSent, step1, step2, step3, step5, step6}
-use Rattle.connections.specs.Claims.{Ready, sharedKey}
+use Rattle.table.specs.Steps.{found, data_request, step}
+use Rattle.connections.specs.Runs.{Sides, unit_sent, step1, step2, step3, step5, step6}
+use Rattle.connections.specs.Claims.{Ready, shared_key}
 use Rattle.connections.proofs.SideLaws.{first, second, third, fifth, completes, unit-there}
 
 abbrev kmac : List ℕ
@@ -54,30 +54,30 @@ sides =
       rb = rb;
       ta = 7;
       tb = 7;
-      storeA = holding engine;
-      storeB = holding rbc;
-      outA = replicate 1032 0;
-      outB = replicate 1032 0;
+      store_a = holding engine;
+      store_b = holding rbc;
+      out_a = replicate 1032 0;
+      out_b = replicate 1032 0;
     }
 
 -- both stores give the key
 kmac-held : key (holding engine) engine 7 ≡ kmac
-unfolding find findIn latest key editionOf editionIn encode header keyRecord keyRecords peersOf words numbers elem entries entriesFrom sound allHold headerOk countsOk sumsOk sumBefore uniqueOk newKey parityOk allOdd unusedOk all_below allZero ones part
+unfolding find find_in latest key edition_of edition_in encode header key_record key_records peers_of words numbers elem entries entries_from sound all_hold header_ok counts_ok sums_ok sum_before unique_ok new_key parity_ok all_odd unused_ok all_below all_zero ones part
 kmac-held = refl
 
 ready : Ready sides
-unfolding found find findIn latest key editionOf editionIn encode header keyRecord keyRecords peersOf words numbers elem entries entriesFrom sound allHold headerOk countsOk sumsOk sumBefore uniqueOk newKey parityOk allOdd unusedOk all_below allZero ones part
+unfolding found find find_in latest key edition_of edition_in encode header key_record key_records peers_of words numbers elem entries entries_from sound all_hold header_ok counts_ok sums_ok sum_before unique_ok new_key parity_ok all_odd unused_ok all_below all_zero ones part
 ready =
     record {
-      place-a = 1;
-      place-b = 1;
-      found-a = refl;
-      found-b = refl;
+      place_a = 1;
+      place_b = 1;
+      found_a = refl;
+      found_b = refl;
       shared = refl;
-      eight-a = refl;
-      eight-b = refl;
-      room-a = omega (arith, length-replicate {A = ℕ} 1032 0);
-      room-b = omega (arith, length-replicate {A = ℕ} 1032 0);
+      eight_a = refl;
+      eight_b = refl;
+      room_a = omega (arith, length-replicate {A = ℕ} 1032 0);
+      room_b = omega (arith, length-replicate {A = ℕ} 1032 0);
     }
 
 -- ---- keys and MACs
@@ -98,53 +98,53 @@ ar = 0x13 ∷ 0x77 ∷ 0x59 ∷ 0x70 ∷ 0x7b ∷ 0x00 ∷ 0x8e ∷ 0xde ∷ 0xf
 abbrev hi : List ℕ
 hi = 0x68 ∷ 0x69 ∷ []
 
-abbrev hiUp : List ℕ
-hiUp = 0x0a ∷ 0x68 ∷ 0x69 ∷ 0xe2 ∷ 0xc8 ∷ 0xac ∷ 0xba ∷ 0x3b ∷ 0x97 ∷ 0x7c ∷ 0x28 ∷ []
+abbrev hi_up : List ℕ
+hi_up = 0x0a ∷ 0x68 ∷ 0x69 ∷ 0xe2 ∷ 0xc8 ∷ 0xac ∷ 0xba ∷ 0x3b ∷ 0x97 ∷ 0x7c ∷ 0x28 ∷ []
 
-abbrev hiDown : List ℕ
-hiDown = 0x0b ∷ 0x68 ∷ 0x69 ∷ 0x27 ∷ 0xf5 ∷ 0x73 ∷ 0xfe ∷ 0x14 ∷ 0x55 ∷ 0xd1 ∷ 0x10 ∷ []
+abbrev hi_down : List ℕ
+hi_down = 0x0b ∷ 0x68 ∷ 0x69 ∷ 0x27 ∷ 0xf5 ∷ 0x73 ∷ 0xfe ∷ 0x14 ∷ 0x55 ∷ 0xd1 ∷ 0x10 ∷ []
 
 record Computed : Type 0 where
-  pub keys : sessionKeys kmac ra rb ≡ ks
-  pub of-au2 : au2Unit ks rbc engine ra rb ≡ au2
-  pub of-au3 : au3Unit ks rbc ra rb ≡ au3
-  pub of-ar : arUnit ks engine ≡ ar
-  pub up : unit_of ks (etcsId rbc) false hi ≡ hiUp
-  pub down : unit_of ks (etcsId engine) true hi ≡ hiDown
+  pub keys : session_keys kmac ra rb ≡ ks
+  pub of_au2 : au2_unit ks rbc engine ra rb ≡ au2
+  pub of_au3 : au3_unit ks rbc ra rb ≡ au3
+  pub of_ar : ar_unit ks engine ≡ ar
+  pub up : unit_of ks (etcs_id rbc) false hi ≡ hi_up
+  pub down : unit_of ks (etcs_id engine) true hi ≡ hi_down
 
 computed : Computed
-unfolding au2Text au2Mac au2Unit au3Mac au3Unit arMac arUnit message unit_of bits valueFrom value bitsOfBytes bytesOfBits xorBits permute row column select selects cipherFunction swap shiftBoth shifted subkey round rounds cipher encipherBits decipherBits ip ipInverse e p pc1 pc2 shifts sboxes part block left right triple ks1 ks2 ks3 odd ones sessionKeys chain finish cbcMac unpadded padded macString mac
-computed = record { keys = refl; of-au2 = refl; of-au3 = refl; of-ar = refl; up = refl; down = refl }
+unfolding au2_text au2_mac au2_unit au3_mac au3_unit ar_mac ar_unit message unit_of bits value_from value bits_of_bytes bytes_of_bits xor_bits permute row column select selects cipher_function swap shift_both shifted subkey round rounds cipher encipher_bits decipher_bits ip ip_inverse e p pc1 pc2 shifts sboxes part block left right triple ks1 ks2 ks3 odd ones session_keys chain finish cbc_mac unpadded padded mac_string mac
+computed = record { keys = refl; of_au2 = refl; of_au3 = refl; of_ar = refl; up = refl; down = refl }
 
 -- ---- the units that go out
 
-pub shared-key : sharedKey sides ≡ ks
-shared-key = ap (λ (k : List ℕ). sessionKeys k ra rb) kmac-held ∙ computed.keys
+pub shared-key : shared_key sides ≡ ks
+shared-key = ap (λ (k : List ℕ). session_keys k ra rb) kmac-held ∙ computed.keys
 
-pub first-unit : unitSent (step1 sides) ≡ 0x42 ∷ 0xe6 ∷ 0xa5 ∷ 0x4b ∷ 0x01 ∷ 0xb0 ∷ 0xb1 ∷ 0xb2 ∷ 0xb3 ∷ 0xb4 ∷ 0xb5 ∷ 0xb6 ∷ 0xb7 ∷ []
-unfolding au1Unit
-first-unit = (first sides ready).unit-is
+pub first-unit : unit_sent (step1 sides) ≡ 0x42 ∷ 0xe6 ∷ 0xa5 ∷ 0x4b ∷ 0x01 ∷ 0xb0 ∷ 0xb1 ∷ 0xb2 ∷ 0xb3 ∷ 0xb4 ∷ 0xb5 ∷ 0xb6 ∷ 0xb7 ∷ []
+unfolding au1_unit
+first-unit = (first sides ready).unit_is
 
-pub second-unit : unitSent (step2 sides) ≡ au2
-second-unit = (second sides ready).unit-is ∙ ap (λ (k : List ℕ). au2Unit k rbc engine ra rb) shared-key ∙ computed.of-au2
+pub second-unit : unit_sent (step2 sides) ≡ au2
+second-unit = (second sides ready).unit_is ∙ ap (λ (k : List ℕ). au2_unit k rbc engine ra rb) shared-key ∙ computed.of_au2
 
-pub third-unit : unitSent (step3 sides) ≡ au3
-third-unit = (third sides ready).unit-is ∙ ap (λ (k : List ℕ). au3Unit k rbc ra rb) shared-key ∙ computed.of-au3
+pub third-unit : unit_sent (step3 sides) ≡ au3
+third-unit = (third sides ready).unit_is ∙ ap (λ (k : List ℕ). au3_unit k rbc ra rb) shared-key ∙ computed.of_au3
 
-pub answer-unit : unitSent (step5 sides) ≡ ar
-answer-unit = (fifth sides ready).unit-is ∙ ap (λ (k : List ℕ). arUnit k engine) shared-key ∙ computed.of-ar
+pub answer-unit : unit_sent (step5 sides) ≡ ar
+answer-unit = (fifth sides ready).unit_is ∙ ap (λ (k : List ℕ). ar_unit k engine) shared-key ∙ computed.of_ar
 
 -- the engine says "hi", and the RBC answers
-pub unit-up : unitSent (step (dataRequest hi) (step6 sides).connection (replicate 1032 0)) ≡ hiUp
+pub unit-up : unit_sent (step (data_request hi) (step6 sides).connection (replicate 1032 0)) ≡ hi_up
 unit-up =
     let s = completes.completes sides ready in
-    unit-there (step6 sides).connection (step5 sides).connection hi (replicate 1032 0) s.to-called (omega arith) (omega arith) ready.room-b
-    ∙ ap (λ (c : Connection). unit_of c.key (etcsId c.own) (not c.responder) hi) s.called_is
-    ∙ ap (λ (k : List ℕ). unit_of k (etcsId rbc) false hi) shared-key ∙ computed.up
+    unit-there (step6 sides).connection (step5 sides).connection hi (replicate 1032 0) s.to_called (omega arith) (omega arith) ready.room_b
+    ∙ ap (λ (c : Connection). unit_of c.key (etcs_id c.own) (not c.responder) hi) s.called_is
+    ∙ ap (λ (k : List ℕ). unit_of k (etcs_id rbc) false hi) shared-key ∙ computed.up
 
-pub unit-down : unitSent (step (dataRequest hi) (step5 sides).connection (replicate 1032 0)) ≡ hiDown
+pub unit-down : unit_sent (step (data_request hi) (step5 sides).connection (replicate 1032 0)) ≡ hi_down
 unit-down =
     let s = completes.completes sides ready in
-    unit-there (step5 sides).connection (step6 sides).connection hi (replicate 1032 0) s.to-caller (omega arith) (omega arith) ready.room-a
-    ∙ ap (λ (c : Connection). unit_of c.key (etcsId c.own) (not c.responder) hi) s.caller-is
-    ∙ ap (λ (k : List ℕ). unit_of k (etcsId engine) true hi) shared-key ∙ computed.down
+    unit-there (step5 sides).connection (step6 sides).connection hi (replicate 1032 0) s.to_caller (omega arith) (omega arith) ready.room_a
+    ∙ ap (λ (c : Connection). unit_of c.key (etcs_id c.own) (not c.responder) hi) s.caller_is
+    ∙ ap (λ (k : List ℕ). unit_of k (etcs_id engine) true hi) shared-key ∙ computed.down

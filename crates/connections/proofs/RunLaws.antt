@@ -10,48 +10,48 @@ use lib.Dec.{leb}
 use borrow.Author.Tests.{leb-true, leb-false}
 use Rattle.octets.specs.Bytes.{part}
 use Rattle.authentication.specs.Claims.{IsBuilt}
-use Rattle.units.specs.Units.{etcsId}
+use Rattle.units.specs.Units.{etcs_id}
 use Rattle.table.specs.declared.Connection.{Connection}
 use Rattle.table.specs.declared.State.{State}
 use Rattle.table.specs.declared.State.TheVariants.{IDLE}
 use Rattle.table.specs.Table.{state_of}
 use Rattle.table.specs.Steps.{Input, Outcome, refuse, step}
 use Rattle.table.specs.Claims.{CheckedData, unmoved}
-use Rattle.table.proofs.Theorems.{data-only-checked, refused-first, expiry-closes-nothing}
+use Rattle.table.proofs.Theorems.{data_only_checked, refused-first, expiry_closes_nothing}
 use Rattle.connections.specs.Runs.{noted, Call, call, World, next, final, run, start}
 use Rattle.connections.specs.Claims.{HoldsSessionKey, Holds, HoldsIn, KeyInEachState, IdleIsEmpty, SessionData, OnlyCheckedData, BringsStore, request, indication, ExpiryClosesNothingLater}
 use Rattle.connections.proofs.TrackLaws.{run_holds}
 
-pub key-in-each-state : KeyInEachState
-key-in-each-state = record { held = run_holds }
+pub key_in_each_state : KeyInEachState
+key_in_each_state = record { held = run_holds }
 
 pub idle-is-empty : IdleIsEmpty
 idle-is-empty = record { empty = λ cs e. subst (λ (s : State). Holds s (run cs).connection (run cs).account) e (run_holds cs) }
 
 -- ---- user data
 
-session-data : (i : Input) (w : World) (n : ℕ) → HoldsIn w → CheckedData i w.connection n → SessionData i w n
-session-data i w n p d =
+session_data : (i : Input) (w : World) (n : ℕ) → HoldsIn w → CheckedData i w.connection n → SessionData i w n
+session_data i w n p d =
     let c = w.connection in
     let h = w.account in
     let k : HoldsSessionKey c h = subst (λ (s : State). Holds s c h) d.in-DATA p in
     let m = k.named in
     record {
       unit = d.unit;
-      event-is = d.event-is;
+      event_is = d.event_is;
       in-DATA = d.in-DATA;
       built =
-          subst (λ (key : List ℕ). IsBuilt d.unit key (etcsId h.own) (not h.responder) (part d.unit 1 n)) k.key-is
-          (subst (λ (own : ℕ). IsBuilt d.unit c.key (etcsId own) (not h.responder) (part d.unit 1 n)) m.own_is
-          (subst (λ (r : Bool). IsBuilt d.unit c.key (etcsId c.own) (not r) (part d.unit 1 n)) m.role-is d.built));
+          subst (λ (key : List ℕ). IsBuilt d.unit key (etcs_id h.own) (not h.responder) (part d.unit 1 n)) k.key_is
+          (subst (λ (own : ℕ). IsBuilt d.unit c.key (etcs_id own) (not h.responder) (part d.unit 1 n)) m.own_is
+          (subst (λ (r : Bool). IsBuilt d.unit c.key (etcs_id c.own) (not r) (part d.unit 1 n)) m.role_is d.built));
       count = d.count;
       place = m.place;
-      was-found = m.was-found;
+      was_found = m.was_found;
     }
 
-pub only-checked-data : OnlyCheckedData
-only-checked-data =
-    record { only = λ cs i out a n e u. session-data i (run cs) n (run_holds cs) (data-only-checked.only i (run cs).connection out a n e u) }
+pub only_checked_data : OnlyCheckedData
+only_checked_data =
+    record { only = λ cs i out a n e u. session_data i (run cs) n (run_holds cs) (data_only_checked.only i (run cs).connection out a n e u) }
 
 -- ---- expiry
 
@@ -63,8 +63,8 @@ brought : (i : Input) (c : Connection) (out : List ℕ) → BringsStore i → (s
 brought i c out b f = room (leb 1032 (length out)) refl
   where
     roomy : {i : Input} → BringsStore i → 1032 ≤ length out → step i c out ≡ unmoved c out
-    roomy (request acceptable own peer t rb store) l = expiry-closes-nothing.of-request acceptable own peer t rb store c out f l
-    roomy (indication acceptable own t ra unit store) l = expiry-closes-nothing.of-indication acceptable own t ra unit store c out f l
+    roomy (request acceptable own peer t rb store) l = expiry_closes_nothing.of_request acceptable own peer t rb store c out f l
+    roomy (indication acceptable own t ra unit store) l = expiry_closes_nothing.of_indication acceptable own t ra unit store c out f l
 
     room : (x : Bool) → leb 1032 (length out) ≡ x → Leaves c out (step i c out)
     room true e = inl (roomy b (leb-true 1032 (length out) e))
@@ -80,9 +80,9 @@ unfolding final
 final-append [] ds w = refl
 final-append (c ∷ cs) ds w = final-append cs ds (next c w)
 
-pub expiry-closes-nothing-later : ExpiryClosesNothingLater
+pub expiry_closes_nothing_later : ExpiryClosesNothingLater
 unfolding run final
-expiry-closes-nothing-later =
+expiry_closes_nothing_later =
     record {
       left_out = λ cs ds i out b f.
           final-append cs (call i out ∷ ds) start

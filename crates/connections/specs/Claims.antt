@@ -4,9 +4,9 @@ use Rattle.std.specs.Prelude.{◌≡◌, Bool, true, false, not, List, ◌∷◌
 use Rattle.octets.specs.Bytes.{part}
 use Rattle.refusal.specs.House.{gives}
 use Rattle.store.specs.Search as held
-use Rattle.authentication.specs.Keys.{sessionKeys}
+use Rattle.authentication.specs.Keys.{session_keys}
 use Rattle.authentication.specs.Claims.{IsBuilt}
-use Rattle.units.specs.Units.{etcsId}
+use Rattle.units.specs.Units.{etcs_id}
 use Rattle.table.specs.declared.Connection.{Connection}
 use Rattle.table.specs.declared.Actions.{Actions}
 use Rattle.table.specs.declared.Kind.TheVariants.{Au3, Ar, Dt}
@@ -15,29 +15,29 @@ use Rattle.table.specs.declared.State.TheVariants.{IDLE, WFTC, WFAR, DATA, WFAU3
 use Rattle.table.specs.declared.ToUser.TheVariants as user
 use Rattle.table.specs.declared.ToTransport.TheVariants.{Quiet}
 use Rattle.table.specs.declared.Timer.TheVariants.{Keep}
-use Rattle.table.specs.Table.{a6, stateCode, state_of}
-use Rattle.table.specs.Steps.{idle, kind_of, found, Input, connectRequest, dataRequest, connectIndication, unitIndication, acts, done, Outcome, step, handedUp}
-use Rattle.connections.specs.Runs.{Account, kmacOf, key_of, Call, call, World, run, Sides, unitSent, step3, step4, step5, step6}
+use Rattle.table.specs.Table.{a6, state_code, state_of}
+use Rattle.table.specs.Steps.{idle, kind_of, found, Input, connect_request, data_request, connect_indication, unit_indication, acts, done, Outcome, step, handed_up}
+use Rattle.connections.specs.Runs.{Account, kmac_of, key_of, Call, call, World, run, Sides, unit_sent, step3, step4, step5, step6}
 
 -- ---- what a connection holds in each state, after any list of events
 
 -- identities and role are the account's, and at its start a key was found for types of at most 7
 pub record Named (c : Connection) (h : Account) : Type 0 where
   pub own_is : c.own ≡ h.own
-  pub peer-is : c.peer ≡ h.peer
-  pub role-is : c.responder ≡ h.responder
-  pub rb-is : c.rb ≡ h.rb
+  pub peer_is : c.peer ≡ h.peer
+  pub role_is : c.responder ≡ h.responder
+  pub rb_is : c.rb ≡ h.rb
   pub place : ℕ
-  pub was-found : found h.store h.own h.peer h.t ≡ gives place
+  pub was_found : found h.store h.own h.peer h.t ≡ gives place
 
 pub record HoldsKmac (c : Connection) (h : Account) : Type 0 where
   pub named : Named c h
-  pub key-is : c.key ≡ kmacOf h
+  pub key_is : c.key ≡ kmac_of h
 
 pub record HoldsSessionKey (c : Connection) (h : Account) : Type 0 where
   pub named : Named c h
-  pub ra-is : c.ra ≡ h.ra
-  pub key-is : c.key ≡ key_of h
+  pub ra_is : c.ra ≡ h.ra
+  pub key_is : c.key ≡ key_of h
 
 -- in IDLE nothing is left, no key byte either
 abbrev pub Holds : State → Connection → Account → Type 0
@@ -63,12 +63,12 @@ pub record IdleIsEmpty : Type 0 where
 -- this session's start gave and of this session's two random numbers
 pub record SessionData (i : Input) (w : World) (n : ℕ) : Type 0 where
   pub unit : List ℕ
-  pub event-is : i ≡ unitIndication Dt unit
+  pub event_is : i ≡ unit_indication Dt unit
   pub in-DATA : state_of w.connection.state ≡ DATA
-  pub built : IsBuilt unit (key_of w.account) (etcsId w.account.own) (not w.account.responder) (part unit 1 n)
+  pub built : IsBuilt unit (key_of w.account) (etcs_id w.account.own) (not w.account.responder) (part unit 1 n)
   pub count : length (part unit 1 n) ≡ n
   pub place : ℕ
-  pub was-found : found w.account.store w.account.own w.account.peer w.account.t ≡ gives place
+  pub was_found : found w.account.store w.account.own w.account.peer w.account.t ≡ gives place
 
 pub record OnlyCheckedData : Type 0 where
   pub only : (cs : List Call) (i : Input) (out : List ℕ) (a : Actions) (n : ℕ) → (step i (run cs).connection out).answer ≡ done a
@@ -78,8 +78,8 @@ pub record OnlyCheckedData : Type 0 where
 
 -- the two events that bring a store and a moment
 pub data BringsStore : Input → Type 0 where
-  request : (acceptable : Bool) (own peer t : ℕ) (rb store : List ℕ) → BringsStore (connectRequest acceptable own peer t rb store)
-  indication : (acceptable : Bool) (own t : ℕ) (ra unit store : List ℕ) → BringsStore (connectIndication acceptable own t ra unit store)
+  request : (acceptable : Bool) (own peer t : ℕ) (rb store : List ℕ) → BringsStore (connect_request acceptable own peer t rb store)
+  indication : (acceptable : Bool) (own t : ℕ) (ra unit store : List ℕ) → BringsStore (connect_indication acceptable own t ra unit store)
 
 -- where a session is at hand, a run goes on as without them, whatever store and moment are
 pub record ExpiryClosesNothingLater : Type 0 where
@@ -90,23 +90,23 @@ pub record ExpiryClosesNothingLater : Type 0 where
 
 -- both find a key, and it is the same; random numbers have eight bytes, and output buffers room
 pub record Ready (x : Sides) : Type 0 where
-  pub place-a : ℕ
-  pub place-b : ℕ
-  pub found-a : found x.storeA x.a x.b x.ta ≡ gives place-a
-  pub found-b : found x.storeB x.b x.a x.tb ≡ gives place-b
-  pub shared : held.key x.storeB x.a x.tb ≡ held.key x.storeA x.b x.ta
-  pub eight-a : length x.ra ≡ 8
-  pub eight-b : length x.rb ≡ 8
-  pub room-a : 1032 ≤ length x.outA
-  pub room-b : 1032 ≤ length x.outB
+  pub place_a : ℕ
+  pub place_b : ℕ
+  pub found_a : found x.store_a x.a x.b x.ta ≡ gives place_a
+  pub found_b : found x.store_b x.b x.a x.tb ≡ gives place_b
+  pub shared : held.key x.store_b x.a x.tb ≡ held.key x.store_a x.b x.ta
+  pub eight_a : length x.ra ≡ 8
+  pub eight_b : length x.rb ≡ 8
+  pub room_a : 1032 ≤ length x.out_a
+  pub room_b : 1032 ≤ length x.out_b
 
-abbrev pub sharedKey : Sides → List ℕ
-sharedKey x = sessionKeys (held.key x.storeA x.b x.ta) x.ra x.rb
+abbrev pub shared_key : Sides → List ℕ
+shared_key x = session_keys (held.key x.store_a x.b x.ta) x.ra x.rb
 
 -- what c sends, d can check: both in DATA, one key, c sends to d, in opposite roles
 pub record Partners (c d : Connection) : Type 0 where
-  pub c-in-DATA : c.state ≡ stateCode DATA
-  pub d-in-DATA : d.state ≡ stateCode DATA
+  pub c_in-DATA : c.state ≡ state_code DATA
+  pub d_in-DATA : d.state ≡ state_code DATA
   pub destination : c.peer ≡ d.own
   pub roles : c.responder ≡ not d.responder
   pub one_key : c.key ≡ d.key
@@ -117,26 +117,26 @@ pub record SetUp (x : Sides) : Type 0 where
   pub indicated : (step4 x).answer ≡ done (acts user.ConnectIndication Quiet Keep 0)
   pub confirmed : (step6 x).answer ≡ done (acts user.ConnectConfirmation Quiet a6 0)
   -- both sides are in DATA with one session key
-  pub called_is : (step5 x).connection ≡ record { state = stateCode DATA; responder = true; own = x.a; peer = x.b; ra = x.ra; rb = x.rb; key = sharedKey x }
-  pub caller-is : (step6 x).connection ≡ record { state = stateCode DATA; responder = false; own = x.b; peer = x.a; ra = x.ra; rb = x.rb; key = sharedKey x }
-  pub to-caller : Partners (step5 x).connection (step6 x).connection
-  pub to-called : Partners (step6 x).connection (step5 x).connection
+  pub called_is : (step5 x).connection ≡ record { state = state_code DATA; responder = true; own = x.a; peer = x.b; ra = x.ra; rb = x.rb; key = shared_key x }
+  pub caller_is : (step6 x).connection ≡ record { state = state_code DATA; responder = false; own = x.b; peer = x.a; ra = x.ra; rb = x.rb; key = shared_key x }
+  pub to_caller : Partners (step5 x).connection (step6 x).connection
+  pub to_called : Partners (step6 x).connection (step5 x).connection
   -- a host that goes by `kind_of` brings the same events
-  pub au3-told : kind_of (unitSent (step3 x)) ≡ Au3
-  pub ar-told : kind_of (unitSent (step5 x)) ≡ Ar
+  pub au3_told : kind_of (unit_sent (step3 x)) ≡ Au3
+  pub ar_told : kind_of (unit_sent (step5 x)) ≡ Ar
 
 pub record Completes : Type 0 where
   pub completes : (x : Sides) → Ready x → SetUp x
 
 -- the same bytes go up at the other side, and neither connection changes: so it holds of any number of units, in any order
 pub record Arrived (c d : Connection) (sent : List ℕ) (sending receiving : Outcome) (unit : List ℕ) : Type 0 where
-  pub sender-is : sending.connection ≡ c
-  pub answer-is : receiving.answer ≡ done (acts (user.DataIndication (length sent)) Quiet Keep 0)
-  pub receiver-is : receiving.connection ≡ d
-  pub handed : handedUp receiving.answer unit ≡ sent
-  pub dt-told : kind_of unit ≡ Dt
+  pub sender_is : sending.connection ≡ c
+  pub answer_is : receiving.answer ≡ done (acts (user.DataIndication (length sent)) Quiet Keep 0)
+  pub receiver_is : receiving.connection ≡ d
+  pub handed : handed_up receiving.answer unit ≡ sent
+  pub dt_told : kind_of unit ≡ Dt
 
 pub record DataArrives : Type 0 where
   pub arrives : (c d : Connection) (sent out out' : List ℕ) → Partners c d → 1 ≤ length sent → length sent ≤ 1023 → 1032 ≤ length out → 1032 ≤ length out'
-      → let sending = step (dataRequest sent) c out in
-      Arrived c d sent sending (step (unitIndication Dt (unitSent sending)) d out') (unitSent sending)
+      → let sending = step (data_request sent) c out in
+      Arrived c d sent sending (step (unit_indication Dt (unit_sent sending)) d out') (unit_sent sending)

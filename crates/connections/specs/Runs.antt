@@ -2,13 +2,13 @@
 -- Assumes nothing.
 use Rattle.std.specs.Prelude.{Bool, true, false, cond, List, [], ◌∷◌, ℕ, take, replicate}
 use Rattle.store.specs.Search as held
-use Rattle.authentication.specs.Keys.{sessionKeys}
-use Rattle.units.specs.Units.{senderOf, random}
+use Rattle.authentication.specs.Keys.{session_keys}
+use Rattle.units.specs.Units.{sender_of, random}
 use Rattle.table.specs.declared.Connection.{Connection}
 use Rattle.table.specs.declared.Kind.TheVariants.{Au3, Ar}
 use Rattle.table.specs.declared.ToTransport.{ToTransport}
 use Rattle.table.specs.declared.ToTransport.TheVariants.{Quiet, TConnReq, TConnResp, TDiscReq, TDiscReqDi, SendAu3, SendAr, SendDt}
-use Rattle.table.specs.Steps.{Input, connectRequest, connectResponse, dataRequest, disconnectRequest, connectIndication, connectConfirmation, disconnectIndication, unitIndication, timeOut, Answered, done, refused, Outcome, idle, step}
+use Rattle.table.specs.Steps.{Input, connect_request, connect_response, data_request, disconnect_request, connect_indication, connect_confirmation, disconnect_indication, unit_indication, time_out, Answered, done, refused, Outcome, idle, step}
 
 -- ---- the account of a session, kept of inputs and answers alone
 
@@ -23,11 +23,11 @@ pub record Account : Type 0 where
   pub rb : List ℕ
 
 -- the KMAC that the search gave, and the session's key
-abbrev pub kmacOf : Account → List ℕ
-kmacOf h = held.key h.store h.peer h.t
+abbrev pub kmac_of : Account → List ℕ
+kmac_of h = held.key h.store h.peer h.t
 
 abbrev pub key_of : Account → List ℕ
-key_of h = sessionKeys (kmacOf h) h.ra h.rb
+key_of h = session_keys (kmac_of h) h.ra h.rb
 
 -- an AU1 that goes out begins the account of a caller, an AU2 that of one who is called; with an AU3 the caller has learnt RA
 abbrev pub tells : ToTransport → Bool
@@ -41,18 +41,18 @@ tells SendAr = false
 tells SendDt = false
 
 abbrev pub told : Input → Account → Account
-told (connectRequest acceptable own peer t rb store) h =
+told (connect_request acceptable own peer t rb store) h =
     record { store = store; t = t; own = own; peer = peer; responder = false; ra = replicate 8 0; rb = rb }
-told (connectIndication acceptable own t ra unit store) h =
-    record { store = store; t = t; own = own; peer = senderOf unit; responder = true; ra = ra; rb = random unit }
-told (connectConfirmation unit) h =
+told (connect_indication acceptable own t ra unit store) h =
+    record { store = store; t = t; own = own; peer = sender_of unit; responder = true; ra = ra; rb = random unit }
+told (connect_confirmation unit) h =
     record { store = h.store; t = h.t; own = h.own; peer = h.peer; responder = h.responder; ra = random unit; rb = h.rb }
-told connectResponse h = h
-told (dataRequest sent) h = h
-told (disconnectRequest reason sub) h = h
-told (disconnectIndication reason unit) h = h
-told (unitIndication kind unit) h = h
-told timeOut h = h
+told connect_response h = h
+told (data_request sent) h = h
+told (disconnect_request reason sub) h = h
+told (disconnect_indication reason unit) h = h
+told (unit_indication kind unit) h = h
+told time_out h = h
 
 unfoldable pub noted : Answered → Input → Account → Account
 noted (done a) i h = cond (tells a.transport) (told i h) h
@@ -86,12 +86,12 @@ run cs = final cs start
 -- ---- two sides
 
 -- the unit that an outcome sends: as many bytes of the output as were written
-abbrev pub writtenIn : Answered → List ℕ → List ℕ
-writtenIn (done a) out = take a.written out
-writtenIn (refused n) out = []
+abbrev pub written_in : Answered → List ℕ → List ℕ
+written_in (done a) out = take a.written out
+written_in (refused n) out = []
 
-abbrev pub unitSent : Outcome → List ℕ
-unitSent o = writtenIn o.answer o.output
+abbrev pub unit_sent : Outcome → List ℕ
+unit_sent o = written_in o.answer o.output
 
 -- the caller b and the called a: random number, moment, store and output buffer of each
 pub record Sides : Type 0 where
@@ -101,26 +101,26 @@ pub record Sides : Type 0 where
   pub rb : List ℕ
   pub ta : ℕ
   pub tb : ℕ
-  pub storeA : List ℕ
-  pub storeB : List ℕ
-  pub outA : List ℕ
-  pub outB : List ℕ
+  pub store_a : List ℕ
+  pub store_b : List ℕ
+  pub out_a : List ℕ
+  pub out_b : List ℕ
 
 -- the six steps of set-up, each on what the one before sent (6.2.4.2)
 unfoldable pub step1 : Sides → Outcome
-step1 x = step (connectRequest true x.b x.a x.tb x.rb x.storeB) idle x.outB
+step1 x = step (connect_request true x.b x.a x.tb x.rb x.store_b) idle x.out_b
 
 unfoldable pub step2 : Sides → Outcome
-step2 x = step (connectIndication true x.a x.ta x.ra (unitSent (step1 x)) x.storeA) idle x.outA
+step2 x = step (connect_indication true x.a x.ta x.ra (unit_sent (step1 x)) x.store_a) idle x.out_a
 
 unfoldable pub step3 : Sides → Outcome
-step3 x = step (connectConfirmation (unitSent (step2 x))) (step1 x).connection x.outB
+step3 x = step (connect_confirmation (unit_sent (step2 x))) (step1 x).connection x.out_b
 
 unfoldable pub step4 : Sides → Outcome
-step4 x = step (unitIndication Au3 (unitSent (step3 x))) (step2 x).connection x.outA
+step4 x = step (unit_indication Au3 (unit_sent (step3 x))) (step2 x).connection x.out_a
 
 unfoldable pub step5 : Sides → Outcome
-step5 x = step connectResponse (step4 x).connection x.outA
+step5 x = step connect_response (step4 x).connection x.out_a
 
 unfoldable pub step6 : Sides → Outcome
-step6 x = step (unitIndication Ar (unitSent (step5 x))) (step3 x).connection x.outB
+step6 x = step (unit_indication Ar (unit_sent (step5 x))) (step3 x).connection x.out_b

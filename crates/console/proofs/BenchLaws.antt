@@ -5,27 +5,27 @@ use lib.ListN.{length-replicate}
 use borrow.Author.Tests.{lt-leb}
 use Rattle.octets.specs.Bytes.{part, splice}
 use Rattle.octets.proofs.SpliceLaws.{splice_front}
-use Rattle.refusal.specs.House.{Answer, house, gives, houseNumber, unlessRefused}
+use Rattle.refusal.specs.House.{Answer, house, gives, house_number, unless_refused}
 use Rattle.refusal.specs.declared.Refusal.{Refusal}
 use Rattle.refusal.proofs.Laws.{buffer-kept}
 use Rattle.store.specs.Search.{emptied}
 use Rattle.store.specs.declared.Limits.{Limits}
 use Rattle.store.specs.declared.Edition.{Edition}
 use Rattle.store.specs.declared.Edition.TheVariants.{Known, Unknown}
-use Rattle.store.specs.Layout.{total, editionIn, editionOf}
-use Rattle.store.proofs.SearchLaws.{editionOf-says, known-edition}
+use Rattle.store.specs.Layout.{total, edition_in, edition_of}
+use Rattle.store.proofs.SearchLaws.{edition_of-says, known-edition}
 use Rattle.convert.specs.Convert.{answered, converted, Converts}
 use Rattle.convert.specs.declared.Converted.TheVariants as converted_as
 use Rattle.convert.proofs.DoneLaws.{same_answer, same_target}
 use Rattle.lines.specs.Digits.{bytes_of, Puts}
 use Rattle.lines.specs.Words.{word}
 use Rattle.authentication.specs.Keys.{derived}
-use Rattle.console.specs.Units.{keyedBy, keysBy}
-use Rattle.console.specs.Lent.{bytesIn}
-use Rattle.console.specs.Bench.{limitsOf, size_of, storeOf, target_of, conversion, largeThen, storeThen, emptyOf, takenIn, storeIn, largeBy, largeIn, filledBy, lineBy}
+use Rattle.console.specs.Units.{keyed_by, keys_by}
+use Rattle.console.specs.Lent.{bytes_in}
+use Rattle.console.specs.Bench.{limits_of, size_of, store_of, target_of, conversion, large_then, store_then, empty_of, taken_in, store_in, large_by, large_in, filled_by, line_by}
 
 -- what is read of word k into an empty buffer
-pub bytes_read : (text w d : List ℕ) (k n : ℕ) → w ≡ word text k → Puts (take (length {A = ℕ} (replicate 38050 0)) (bytes_of w)) (replicate 38050 0) d n → take n d ≡ bytesIn text k
+pub bytes_read : (text w d : List ℕ) (k n : ℕ) → w ≡ word text k → Puts (take (length {A = ℕ} (replicate 38050 0)) (bytes_of w)) (replicate 38050 0) d n → take n d ≡ bytes_in text k
 bytes_read text w d k n e p =
     let l : length {A = ℕ} (replicate 38050 0) ≡ 38050 = length-replicate {A = ℕ} 38050 0 in
     ap (take n) p.written
@@ -33,7 +33,7 @@ bytes_read text w d k n e p =
     ∙ ap (λ (j : ℕ). take j (bytes_of w)) l
     ∙ ap (λ (v : List ℕ). take 38050 (bytes_of v)) e
 
-bytes_counted : (text w d : List ℕ) (k n : ℕ) → w ≡ word text k → Puts (take (length {A = ℕ} (replicate 38050 0)) (bytes_of w)) (replicate 38050 0) d n → n ≡ length (bytesIn text k)
+bytes_counted : (text w d : List ℕ) (k n : ℕ) → w ≡ word text k → Puts (take (length {A = ℕ} (replicate 38050 0)) (bytes_of w)) (replicate 38050 0) d n → n ≡ length (bytes_in text k)
 bytes_counted text w d k n e p =
     p.many ∙ ap (λ (j : ℕ). length (take j (bytes_of w))) (length-replicate {A = ℕ} 38050 0) ∙ ap (λ (v : List ℕ). length (take 38050 (bytes_of v))) e
 
@@ -42,54 +42,54 @@ bytes_counted text w d k n e p =
 pub front_length : (large : Bool) (n : ℕ) (s : List ℕ) → (n ≡ size_of large) × (n ≤ 38012) → length s ≡ 38012 → n ≡ length (take n s)
 front_length large n s h l = sym (length-take-le n s (omega (arith, h.1, l)))
 
-pub front-held : (large : Bool) (n : ℕ) (new rest : List ℕ) → (n ≡ size_of large) × (n ≤ 38012) → length new ≡ n → storeOf large (new ++ rest) ≡ new
+pub front-held : (large : Bool) (n : ℕ) (new rest : List ℕ) → (n ≡ size_of large) × (n ≤ 38012) → length new ≡ n → store_of large (new ++ rest) ≡ new
 front-held large n new rest h l = take_at new rest (size_of large) (l ∙ h.0)
 
 -- the empty store of the edition that has the length of the one that is held
-pub emptied-held : (large : Bool) (n : ℕ) (s new rest : List ℕ) → (n ≡ size_of large) × (n ≤ 38012) → n ≡ length s → new ≡ emptied (editionOf (length s)) s → length new ≡ length s
-    → storeOf large (new ++ rest) ≡ emptyOf large
-unfolding editionOf editionIn emptied
+pub emptied-held : (large : Bool) (n : ℕ) (s new rest : List ℕ) → (n ≡ size_of large) × (n ≤ 38012) → n ≡ length s → new ≡ emptied (edition_of (length s)) s → length new ≡ length s
+    → store_of large (new ++ rest) ≡ empty_of large
+unfolding edition_of edition_in emptied
 emptied-held large n s new rest h l e k =
-    front-held large n new rest h (k ∙ sym l) ∙ e ∙ ap (λ (m : ℕ). emptied (editionOf m) s) (sym l ∙ h.0) ∙ go large
+    front-held large n new rest h (k ∙ sym l) ∙ e ∙ ap (λ (m : ℕ). emptied (edition_of m) s) (sym l ∙ h.0) ∙ go large
   where
-    go : (b : Bool) → emptied (editionOf (size_of b)) s ≡ emptyOf b
+    go : (b : Bool) → emptied (edition_of (size_of b)) s ≡ empty_of b
     go true = refl
     go false = refl
 
 -- ---- the store that a line brings
 
 -- the editions' lengths
-pub edition-length : (n : ℕ) (L : Limits) → editionOf n ≡ Known L → (n ≤ 38012) × (size_of (eqb n 38012) ≡ n)
+pub edition-length : (n : ℕ) (L : Limits) → edition_of n ≡ Known L → (n ≤ 38012) × (size_of (eqb n 38012) ≡ n)
 edition-length n L e =
-    let size : n ≡ total L = (editionOf-says n L e).1 in
+    let size : n ≡ total L = (edition_of-says n L e).1 in
     ⊎_elim
     (λ h. let z : n ≡ 3852 = size ∙ sym (ap total h) in (omega arith, ap size_of (ne_eqb n 38012 (omega arith)) ∙ sym z))
     (λ h. let z : n ≡ 38012 = size ∙ sym (ap total h) in (omega arith, ap size_of (eq-eqb n 38012 z) ∙ sym z))
     (known-edition n L e)
 
 module _ (text w d : List ℕ) (n : ℕ) (e : w ≡ word text 1) (p : Puts (take (length {A = ℕ} (replicate 38050 0)) (bytes_of w)) (replicate 38050 0) d n) where
-  pub large-kept : (large : Bool) → editionOf n ≡ Unknown → large ≡ largeIn text large
-  large-kept large f = sym (ap (λ (x : Edition). largeBy x (length (bytesIn text 1)) large) (ap editionOf (sym (bytes_counted text w d 1 n e p)) ∙ f))
+  pub large-kept : (large : Bool) → edition_of n ≡ Unknown → large ≡ large_in text large
+  large-kept large f = sym (ap (λ (x : Edition). large_by x (length (bytes_in text 1)) large) (ap edition_of (sym (bytes_counted text w d 1 n e p)) ∙ f))
 
-  pub large-taken : (large : Bool) (L : Limits) → editionOf n ≡ Known L → eqb n 38012 ≡ largeIn text large
+  pub large-taken : (large : Bool) (L : Limits) → edition_of n ≡ Known L → eqb n 38012 ≡ large_in text large
   large-taken large L f =
-      let c : n ≡ length (bytesIn text 1) = bytes_counted text w d 1 n e p in
-      ap (λ (k : ℕ). eqb k 38012) c ∙ sym (ap (λ (x : Edition). largeBy x (length (bytesIn text 1)) large) (ap editionOf (sym c) ∙ f))
+      let c : n ≡ length (bytes_in text 1) = bytes_counted text w d 1 n e p in
+      ap (λ (k : ℕ). eqb k 38012) c ∙ sym (ap (λ (x : Edition). large_by x (length (bytes_in text 1)) large) (ap edition_of (sym c) ∙ f))
 
-  pub store_kept : (old : List ℕ) → editionOf n ≡ Unknown → old ≡ storeIn text old
-  store_kept old f = sym (ap (λ (x : Edition). takenIn x (bytesIn text 1) old) (ap editionOf (sym (bytes_counted text w d 1 n e p)) ∙ f))
+  pub store_kept : (old : List ℕ) → edition_of n ≡ Unknown → old ≡ store_in text old
+  store_kept old f = sym (ap (λ (x : Edition). taken_in x (bytes_in text 1) old) (ap edition_of (sym (bytes_counted text w d 1 n e p)) ∙ f))
 
-  pub store-taken : (old before new : List ℕ) (L : Limits) → editionOf n ≡ Known L → new ≡ splice before 0 (part d 0 n)
-      → storeOf (eqb n 38012) new ≡ storeIn text old
+  pub store-taken : (old before new : List ℕ) (L : Limits) → edition_of n ≡ Known L → new ≡ splice before 0 (part d 0 n)
+      → store_of (eqb n 38012) new ≡ store_in text old
   unfolding part
   store-taken old before new L f q =
-      let v : List ℕ = bytesIn text 1 in
+      let v : List ℕ = bytes_in text 1 in
       let r : part d 0 n ≡ v = bytes_read text w d 1 n e p in
       let c : n ≡ length v = bytes_counted text w d 1 n e p in
       ap (λ (k : ℕ). take k new) (edition-length n L f).1
       ∙ ap (take n) (q ∙ ap (λ (x : List ℕ). splice before 0 x) r)
       ∙ splice_front before v n (sym c)
-      ∙ sym (ap (λ (x : Edition). takenIn x v old) (ap editionOf (sym c) ∙ f))
+      ∙ sym (ap (λ (x : Edition). taken_in x v old) (ap edition_of (sym c) ∙ f))
 
 -- ---- the store that is converted
 
@@ -97,55 +97,55 @@ module _ (large : Bool) (n : ℕ) (s to new : List ℕ) (h : (n ≡ size_of (not
   target-long : length to ≡ length (target_of large)
   target-long = sym l ∙ h.0 ∙ sym (length-replicate {A = ℕ} (size_of (not large)) 0)
 
-  answer-is : answered (limitsOf large) (limitsOf (not large)) s to ≡ conversion large s
-  answer-is = same_answer (limitsOf large) (limitsOf (not large)) s to (target_of large) target-long
+  answer_is : answered (limits_of large) (limits_of (not large)) s to ≡ conversion large s
+  answer_is = same_answer (limits_of large) (limits_of (not large)) s to (target_of large) target-long
 
-  pub held-refused : (g : Refusal) → Converts (limitsOf large) (limitsOf (not large)) s to new (converted_as.Refused g) → (large ≡ largeThen (conversion large s) large) × (s ≡ storeThen large s)
+  pub held-refused : (g : Refusal) → Converts (limits_of large) (limits_of (not large)) s to new (converted_as.Refused g) → (large ≡ large_then (conversion large s) large) × (s ≡ store_then large s)
   held-refused g c =
-      let e : house (houseNumber g) ≡ conversion large s = c.answer ∙ answer-is in
-      (ap (λ (x : Answer). largeThen x large) e, buffer-kept (houseNumber g) (converted (limitsOf large) (limitsOf (not large)) s (target_of large)) s e)
+      let e : house (house_number g) ≡ conversion large s = c.answer ∙ answer_is in
+      (ap (λ (x : Answer). large_then x large) e, buffer-kept (house_number g) (converted (limits_of large) (limits_of (not large)) s (target_of large)) s e)
 
-  pub held-converted : Converts (limitsOf large) (limitsOf (not large)) s to new converted_as.Done → length new ≡ length to
+  pub held-converted : Converts (limits_of large) (limits_of (not large)) s to new converted_as.Done → length new ≡ length to
       → (before after rest : List ℕ) → after ≡ splice before 0 (part (new ++ rest) 0 n)
-      → (not large ≡ largeThen (conversion large s) large) × (storeOf (not large) after ≡ storeThen large s)
+      → (not large ≡ large_then (conversion large s) large) × (store_of (not large) after ≡ store_then large s)
   unfolding part
   held-converted c k before after rest q =
-      let e : gives 0 ≡ conversion large s = c.answer ∙ answer-is in
-      let made : List ℕ = converted (limitsOf large) (limitsOf (not large)) s (target_of large) in (
-        ap (λ (x : Answer). largeThen x large) e,
+      let e : gives 0 ≡ conversion large s = c.answer ∙ answer_is in
+      let made : List ℕ = converted (limits_of large) (limits_of (not large)) s (target_of large) in (
+        ap (λ (x : Answer). large_then x large) e,
         ap (λ (m : ℕ). take m after) (sym h.0)
             ∙ ap (take n) (q ∙ ap (splice before 0) (take_at new rest n (k ∙ sym l)))
             ∙ splice_front before new n (k ∙ sym l)
-            ∙ c.target ∙ same_target (limitsOf large) (limitsOf (not large)) s to (target_of large) target-long (sym c.answer)
-            ∙ ap (λ (x : Answer). unlessRefused x made s) e,
+            ∙ c.target ∙ same_target (limits_of large) (limits_of (not large)) s to (target_of large) target-long (sym c.answer)
+            ∙ ap (λ (x : Answer). unless_refused x made s) e,
       )
 
 -- ---- the line that is read
 
-pub filled-over : (room n k : ℕ) → room < n → n ≡ filledBy room n k
+pub filled-over : (room n k : ℕ) → room < n → n ≡ filled_by room n k
 filled-over room n k h = simp (lt-leb (n + k) room (omega arith), lt-ltb room n h)
 
-pub filled-full : (room n k : ℕ) → n ≤ room → room - n < k → room + 1 ≡ filledBy room n k
+pub filled-full : (room n k : ℕ) → n ≤ room → room - n < k → room + 1 ≡ filled_by room n k
 filled-full room n k h l = simp (lt-leb (n + k) room (omega arith), le-ltb room n h)
 
-pub filled-fits : (room n k : ℕ) → n + k ≤ room → n + k ≡ filledBy room n k
-filled-fits room n k h = simp (le-leb (n + k) room h)
+pub filled_fits : (room n k : ℕ) → n + k ≤ room → n + k ≡ filled_by room n k
+filled_fits room n k h = simp (le-leb (n + k) room h)
 
-pub line-short : (line : List ℕ) (n : ℕ) (more : List ℕ) → length line < n + length more → line ≡ lineBy line n more
-line-short line n more h = simp (lt-leb (n + length more) (length line) h)
+pub line_short : (line : List ℕ) (n : ℕ) (more : List ℕ) → length line < n + length more → line ≡ line_by line n more
+line_short line n more h = simp (lt-leb (n + length more) (length line) h)
 
-pub line-fits : (line : List ℕ) (n : ℕ) (more : List ℕ) → n + length more ≤ length line → splice line n more ≡ lineBy line n more
-line-fits line n more h = simp (le-leb (n + length more) (length line) h)
+pub line_fits : (line : List ℕ) (n : ℕ) (more : List ℕ) → n + length more ≤ length line → splice line n more ≡ line_by line n more
+line_fits line n more h = simp (le-leb (n + length more) (length line) h)
 
 -- ---- the session keys that are held
 
-empty-list : (s : List ℕ) → length s ≡ 0 → s ≡ []
-empty-list [] e = refl
-empty-list (x ∷ s) e = absurd (omega arith)
+empty_list : (s : List ℕ) → length s ≡ 0 → s ≡ []
+empty_list [] e = refl
+empty_list (x ∷ s) e = absurd (omega arith)
 
 -- no KMAC, no session keys: those before stay
-pub none-derived : (kmac : List ℕ) (ra rb : ℕ) (keyed : Bool) (keys : List ℕ) → length kmac ≡ 0 → (keyed ≡ keyedBy (derived kmac) keyed) × (keys ≡ keysBy kmac ra rb keys)
+pub none-derived : (kmac : List ℕ) (ra rb : ℕ) (keyed : Bool) (keys : List ℕ) → length kmac ≡ 0 → (keyed ≡ keyed_by (derived kmac) keyed) × (keys ≡ keys_by kmac ra rb keys)
 unfolding derived
 none-derived kmac ra rb keyed keys e =
-    let z : [] ≡ kmac = sym (empty-list kmac e) in
-    (ap (λ (x : List ℕ). keyedBy (derived x) keyed) z, ap (λ (x : List ℕ). keysBy x ra rb keys) z)
+    let z : [] ≡ kmac = sym (empty_list kmac e) in
+    (ap (λ (x : List ℕ). keyed_by (derived x) keyed) z, ap (λ (x : List ℕ). keys_by x ra rb keys) z)

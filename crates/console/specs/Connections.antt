@@ -1,19 +1,19 @@
 -- The two connections of the bench, and what a line asks of one of them.
 -- Assumes nothing.
 use Rattle.std.specs.Prelude.{ℕ, Bool, true, false, List, []}
-use Rattle.des.specs.Bits.{bits, bytesOfBits}
-use Rattle.table.specs.Steps.{Input, connectRequest, connectResponse, dataRequest, disconnectRequest, connectIndication, connectConfirmation, disconnectIndication, unitIndication, timeOut, idle, step, kindNumbered}
+use Rattle.des.specs.Bits.{bits, bytes_of_bits}
+use Rattle.table.specs.Steps.{Input, connect_request, connect_response, data_request, disconnect_request, connect_indication, connect_confirmation, disconnect_indication, unit_indication, time_out, idle, step, kind_numbered}
 use Rattle.lines.specs.declared.connections.Event.{Event}
 use Rattle.lines.specs.declared.connections.Event.TheVariants as event
 use Rattle.lines.specs.declared.connections.Asked.{Asked}
 use Rattle.lines.specs.declared.connections.Asked.TheVariants as asked-as
 use Rattle.console.specs.declared.connections.Side.{Side}
 use Rattle.console.specs.declared.connections.Sides.{Sides}
-use Rattle.console.specs.Lent.{output, bytesIn}
+use Rattle.console.specs.Lent.{output, bytes_in}
 
 -- the idle connection
-abbrev pub atRest : ℕ → Side
-atRest own = record { own = own; connection = idle }
+abbrev pub at_rest : ℕ → Side
+at_rest own = record { own = own; connection = idle }
 
 -- the word that has the bytes of an event, a unit or user data; where it has none, word 5, which no line has
 abbrev pub bytes_at : Event → ℕ
@@ -29,32 +29,32 @@ bytes_at event.End = 2
 bytes_at event.Late = 5
 
 abbrev pub random : ℕ → List ℕ
-random x = bytesOfBits 8 (bits 64 x)
+random x = bytes_of_bits 8 (bits 64 x)
 
 -- an event of set-up: of a side with this own identity, with these bytes, over this store; the application type is acceptable
 abbrev pub input_of : Event → ℕ → List ℕ → List ℕ → Input
-input_of (event.Call peer t rb) own bytes store = connectRequest true own peer t (random rb) store
-input_of (event.Indicate t ra) own bytes store = connectIndication true own t (random ra) bytes store
-input_of event.Confirm own bytes store = connectConfirmation bytes
-input_of (event.Bring kind) own bytes store = unitIndication (kindNumbered kind) bytes
-input_of event.Respond own bytes store = connectResponse
-input_of event.Say own bytes store = dataRequest bytes
-input_of (event.Release reason sub) own bytes store = disconnectRequest reason sub
-input_of (event.Lost reason) own bytes store = disconnectIndication reason []
-input_of event.End own bytes store = disconnectIndication 0 bytes
-input_of event.Late own bytes store = timeOut
+input_of (event.Call peer t rb) own bytes store = connect_request true own peer t (random rb) store
+input_of (event.Indicate t ra) own bytes store = connect_indication true own t (random ra) bytes store
+input_of event.Confirm own bytes store = connect_confirmation bytes
+input_of (event.Bring kind) own bytes store = unit_indication (kind_numbered kind) bytes
+input_of event.Respond own bytes store = connect_response
+input_of event.Say own bytes store = data_request bytes
+input_of (event.Release reason sub) own bytes store = disconnect_request reason sub
+input_of (event.Lost reason) own bytes store = disconnect_indication reason []
+input_of event.End own bytes store = disconnect_indication 0 bytes
+input_of event.Late own bytes store = time_out
 
 abbrev pub stepped : Input → Side → Side
 stepped i s = record { own = s.own; connection = (step i s.connection output).connection }
 
 abbrev pub brought : Event → List ℕ → List ℕ → Side → Side
-brought e text store s = stepped (input_of e s.own (bytesIn text (bytes_at e)) store) s
+brought e text store s = stepped (input_of e s.own (bytes_in text (bytes_at e)) store) s
 
 abbrev pub asked : Asked → List ℕ → List ℕ → Side → Side
-asked (asked-as.Idle own) text store s = atRest own
+asked (asked-as.Idle own) text store s = at_rest own
 asked (asked-as.Event e) text store s = brought e text store s
 
 -- of connection b, or of a; the other is as it was
-abbrev pub sidesBy : Bool → Asked → List ℕ → List ℕ → Sides → Sides
-sidesBy true what text store s = record { a = s.a; b = asked what text store s.b }
-sidesBy false what text store s = record { a = asked what text store s.a; b = s.b }
+abbrev pub sides_by : Bool → Asked → List ℕ → List ℕ → Sides → Sides
+sides_by true what text store s = record { a = s.a; b = asked what text store s.b }
+sides_by false what text store s = record { a = asked what text store s.a; b = s.b }

@@ -9,5 +9,5 @@ abbrev pub output : List ℕ
 output = replicate 1032 0
 
 -- the bytes in hex of word k, of which there is room for 38,050
-abbrev pub bytesIn : List ℕ → ℕ → List ℕ
-bytesIn text k = take 38050 (bytes_of (word text k))
+abbrev pub bytes_in : List ℕ → ℕ → List ℕ
+bytes_in text k = take 38050 (bytes_of (word text k))

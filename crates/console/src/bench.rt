@@ -1,7 +1,7 @@
 // The module at the bench: the session, the store, the session keys and the connections that the lines work on.
 ghost use Rattle.std.specs.Prelude.{◌≡◌, ◌-◌, ◌≤◌, length};
 ghost use Rattle.lines.specs.Orders.{order_of};
-ghost use Rattle.console.specs.Bench.{at_start, filledBy, lineBy, withFilled, nextLine, held_at, obeyed, lineDone, Leaves};
+ghost use Rattle.console.specs.Bench.{at_start, filled_by, line_by, with_filled, next_line, held_at, obeyed, line_done, Leaves};
 ghost use Rattle.octets.specs.Bytes.{part};
 
 use crate::answers::shown;
@@ -140,7 +140,7 @@ impl Bench {
     // The line has come to its end.
     pub fn end_line(self, text: &[u8], store: &mut [u8], keys: &mut [u8]) -> Bench
         requires { (length store.old ≡ 38012) × (length keys.old ≡ 24) }
-        ensures { Leaves (lineDone text.now self.filled (held_at self store.old keys.old)) (nextLine self) result store.new keys.new }
+        ensures { Leaves (line_done text.now self.filled (held_at self store.old keys.old)) (next_line self) result store.new keys.new }
     {
         let n = self.filled;
         if text.len() < n {
@@ -152,7 +152,7 @@ impl Bench {
     }
 
     fn next_line(mut self) -> Bench
-        ensures { result ≡ nextLine self }
+        ensures { result ≡ next_line self }
     {
         self.filled = 0;
         self.line = std::num::wrapping_add_u64(self.line, 1);
@@ -162,7 +162,7 @@ impl Bench {
     // Takes the bytes of a chunk between two indexes to the end of the line.
     pub fn append(mut self, line: &mut [u8], chunk: &[u8], from: usize, end: usize) -> Bench
         requires { (from ≤ «end») × («end» ≤ length chunk.now) }
-        ensures { (result ≡ withFilled self (filledBy (length line.old) self.filled («end» - from))) × (line.new ≡ lineBy line.old self.filled (part chunk.now from («end» - from))) }
+        ensures { (result ≡ with_filled self (filled_by (length line.old) self.filled («end» - from))) × (line.new ≡ line_by line.old self.filled (part chunk.now from («end» - from))) }
     {
         let n = self.filled;
         let k = end - from;

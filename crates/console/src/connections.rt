@@ -1,7 +1,7 @@
 // The two connections of the bench: what a line asks of one of them.
 ghost use Rattle.std.specs.Prelude.{◌≡◌};
 ghost use Rattle.table.specs.Steps.{Does, step};
-ghost use Rattle.console.specs.Connections.{atRest, bytes_at, input_of, stepped as steppedBy, brought as broughtBy, asked as asked_of, sidesBy};
+ghost use Rattle.console.specs.Connections.{at_rest, bytes_at, input_of, stepped as steppedBy, brought as broughtBy, asked as asked_of, sides_by};
 
 use crate::events::{state, told};
 use crate::text::LINE_BYTES;
@@ -24,7 +24,7 @@ pub struct Sides {
 }
 
 fn at_rest(own: u32) -> Side
-    ensures { result ≡ atRest own }
+    ensures { result ≡ at_rest own }
 {
     Side {
         own,
@@ -33,7 +33,7 @@ fn at_rest(own: u32) -> Side
 }
 
 pub fn none() -> Sides
-    ensures { result ≡ record { a = atRest 0; b = atRest 0 } }
+    ensures { result ≡ record { a = at_rest 0; b = at_rest 0 } }
 {
     let a = at_rest(0);
     let b = at_rest(0);
@@ -132,7 +132,7 @@ fn asked(side: Side, what: Asked, text: &[u8], store: &[u8]) -> Side
 
 // What a line asks of connection b, or of a.
 pub fn obey(mut sides: Sides, second: bool, what: Asked, text: &[u8], store: &[u8]) -> Sides
-    ensures { result ≡ sidesBy second what text.now store.now sides }
+    ensures { result ≡ sides_by second what text.now store.now sides }
 {
     if second {
         sides.b = asked(sides.b, what, text, store);

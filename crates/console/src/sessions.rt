@@ -1,8 +1,8 @@
 // Sessions: begin, and messages.
 ghost use Rattle.std.specs.Prelude.{◌≡◌, length};
 ghost use Rattle.session.specs.Sessions.{begin as beginning};
-ghost use Rattle.runs.specs.Calls.{sessionOf};
-ghost use Rattle.console.specs.Bench.{storeOf, received};
+ghost use Rattle.runs.specs.Calls.{session_of};
+ghost use Rattle.console.specs.Bench.{store_of, received};
 ghost use Rattle.console.specs.Lent.{output};
 
 use crate::answers::{front, named, refused, reply};
@@ -13,7 +13,7 @@ use lines::words::word;
 use session::{Begun, Received, Session};
 
 pub fn begin(session: Session, own: u32, peer: u32, number: u16) -> Session
-    ensures { result ≡ sessionOf (beginning own peer number output) session }
+    ensures { result ≡ session_of (beginning own peer number output) session }
 {
     let mut out = [0u8; 1032];
     match Session::begin(own, peer, number, &mut out) {
@@ -40,7 +40,7 @@ fn answered(answer: Received, out: &[u8]) {
 // The bytes of the message stand in hex in word 1.
 pub fn receive(session: Session, text: &[u8], large: bool, store: &mut [u8]) -> Session
     requires { length store.old ≡ 38012 }
-    ensures { (result ≡ (received session text.now large store.old).session) × (storeOf large store.new ≡ (received session text.now large store.old).store) }
+    ensures { (result ≡ (received session text.now large store.old).session) × (store_of large store.new ≡ (received session text.now large store.old).store) }
 {
     let mut bytes = [0u8; LINE_BYTES];
     let w = word(text, 1);

@@ -1,7 +1,7 @@
 // The held records, in order of place.
 ghost use Rattle.std.specs.Prelude.{◌≡◌, ◌+◌, ◌*◌, ◌<◌, ◌≤◌, true, length};
 ghost use Rattle.octets.specs.Bytes.{get16};
-ghost use Rattle.runs.specs.Alike.{isSound};
+ghost use Rattle.runs.specs.Alike.{is_sound};
 
 use crate::text::{end, line, number, text, word};
 use records::{Record, is_held, peer_at, record_at};
@@ -43,7 +43,7 @@ fn counts(keys: usize, peers: usize) {
 }
 
 fn records(s: &[u8])
-    requires { isSound s.now ≡ true }
+    requires { is_sound s.now ≡ true }
 {
     let n = number_at(s, 2);
     counts(n, number_at(s, 6));

@@ -1,7 +1,7 @@
 // The store: searched, taken, emptied and converted. The bench has room for a store of either edition, at the front of its buffer.
 ghost use Rattle.std.specs.Prelude.{◌≡◌, ◌≤◌, not, length};
 ghost use Rattle.convert.specs.Convert.{Converts};
-ghost use Rattle.console.specs.Bench.{limitsOf, size_of, storeOf, storeIn, largeIn, emptyOf, conversion, largeThen, storeThen};
+ghost use Rattle.console.specs.Bench.{limits_of, size_of, store_of, store_in, large_in, empty_of, conversion, large_then, store_then};
 
 use crate::answers::{place, refused};
 use crate::text::{LINE_BYTES, line, text};
@@ -21,7 +21,7 @@ pub fn size(large: bool) -> usize
 // The store that is held.
 pub fn store_of(large: bool, store: &[u8]) -> &[u8]
     requires { length store.now ≡ 38012 }
-    ensures { result.now ≡ storeOf large store.now }
+    ensures { result.now ≡ store_of large store.now }
 {
     let n = size(large);
     &store[..n]
@@ -37,7 +37,7 @@ pub fn search(store: &[u8], peer: u32, t: u32) {
 // Takes the bytes of word 1 for the store, sound or not, where an edition has their length. Answers whether edition 2 is held then.
 pub fn take(large: bool, text: &[u8], store: &mut [u8]) -> bool
     requires { length store.old ≡ 38012 }
-    ensures { (result ≡ largeIn text.now large) × (storeOf result store.new ≡ storeIn text.now (storeOf large store.old)) }
+    ensures { (result ≡ large_in text.now large) × (store_of result store.new ≡ store_in text.now (store_of large store.old)) }
 {
     let mut bytes = [0u8; LINE_BYTES];
     let w = word(text, 1);
@@ -58,7 +58,7 @@ pub fn take(large: bool, text: &[u8], store: &mut [u8]) -> bool
 // Makes the store that is held the empty one of its edition.
 pub fn clear(large: bool, store: &mut [u8])
     requires { length store.old ≡ 38012 }
-    ensures { storeOf large store.new ≡ emptyOf large }
+    ensures { store_of large store.new ≡ empty_of large }
 {
     let n = size(large);
     store::empty(&mut store[..n]);
@@ -66,7 +66,7 @@ pub fn clear(large: bool, store: &mut [u8])
 
 pub fn empty(large: bool, store: &mut [u8])
     requires { length store.old ≡ 38012 }
-    ensures { storeOf large store.new ≡ emptyOf large }
+    ensures { store_of large store.new ≡ empty_of large }
 {
     clear(large, store);
     line(b"store empty");
@@ -85,7 +85,7 @@ fn said(done: &[u8], large: bool) {
 // Makes the empty store of the edition that is chosen.
 pub fn choose(large: bool, store: &mut [u8])
     requires { length store.old ≡ 38012 }
-    ensures { storeOf large store.new ≡ emptyOf large }
+    ensures { store_of large store.new ≡ empty_of large }
 {
     clear(large, store);
     said(b"store empty", large);
@@ -93,7 +93,7 @@ pub fn choose(large: bool, store: &mut [u8])
 
 // Makes a store of an edition one of the other.
 fn convert_from(large: bool, from: &[u8], to: &mut [u8]) -> Converted
-    ensures { Converts (limitsOf large) (limitsOf (not large)) from.now to.old to.new result }
+    ensures { Converts (limits_of large) (limits_of (not large)) from.now to.old to.new result }
 {
     if large {
         convert::to_edition1(from, to)
@@ -105,7 +105,7 @@ fn convert_from(large: bool, from: &[u8], to: &mut [u8]) -> Converted
 // Makes the store that is held one of the other edition, which is made in a second buffer. Answers whether edition 2 is held then.
 fn convert_in(large: bool, store: &mut [u8], made: &mut [u8]) -> bool
     requires { (length store.old ≡ 38012) × (length made.old ≡ 38012) }
-    ensures { (result ≡ largeThen (conversion large (storeOf large store.old)) large) × (storeOf result store.new ≡ storeThen large (storeOf large store.old)) }
+    ensures { (result ≡ large_then (conversion large (store_of large store.old)) large) × (store_of result store.new ≡ store_then large (store_of large store.old)) }
 {
     let n = size(!large);
     match convert_from(large, store_of(large, store), &mut made[..n]) {
@@ -123,7 +123,7 @@ fn convert_in(large: bool, store: &mut [u8], made: &mut [u8]) -> bool
 
 pub fn convert(large: bool, store: &mut [u8]) -> bool
     requires { length store.old ≡ 38012 }
-    ensures { (result ≡ largeThen (conversion large (storeOf large store.old)) large) × (storeOf result store.new ≡ storeThen large (storeOf large store.old)) }
+    ensures { (result ≡ large_then (conversion large (store_of large store.old)) large) × (store_of result store.new ≡ store_then large (store_of large store.old)) }
 {
     let mut made = [0u8; LENGTH_2];
     convert_in(large, store, &mut made)

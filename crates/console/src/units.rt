@@ -1,8 +1,8 @@
 // Session keys, and units built and checked with them.
 ghost use Rattle.std.specs.Prelude.{◌≡◌, true, length};
-ghost use Rattle.runs.specs.Alike.{isSound};
+ghost use Rattle.runs.specs.Alike.{is_sound};
 ghost use Rattle.authentication.specs.Keys.{derived};
-ghost use Rattle.console.specs.Units.{heldKmac, soundKmac, keyedBy, keysBy, threeBytes};
+ghost use Rattle.console.specs.Units.{held_kmac, sound_kmac, keyed_by, keys_by, three_bytes};
 
 use crate::answers::{front, named, refused};
 use crate::text::{LINE_BYTES, line};
@@ -26,7 +26,7 @@ fn keep(keys: &mut [u8], key: [u8; 24])
 // Derives session keys of a KMAC, and answers whether session keys are held then.
 fn derive(held: bool, kmac: &[u8], ra: u64, rb: u64, keys: &mut [u8]) -> bool
     requires { length keys.old ≡ 24 }
-    ensures { (result ≡ keyedBy (derived kmac.now) held) × (keys.new ≡ keysBy kmac.now ra rb keys.old) }
+    ensures { (result ≡ keyed_by (derived kmac.now) held) × (keys.new ≡ keys_by kmac.now ra rb keys.old) }
 {
     let derived = authentication::session_keys(kmac, des::store(ra), des::store(rb));
     let answer = derived.answer;
@@ -46,8 +46,8 @@ fn derive(held: bool, kmac: &[u8], ra: u64, rb: u64, keys: &mut [u8]) -> bool
 
 // The KMAC at a place of a sound store, the first being 1; empty where it holds no record.
 fn kmac_at(s: &[u8], place: usize) -> &[u8]
-    requires { isSound s.now ≡ true }
-    ensures { result.now ≡ heldKmac s.now place }
+    requires { is_sound s.now ≡ true }
+    ensures { result.now ≡ held_kmac s.now place }
 {
     if place == 0 {
         return &s[..0];
@@ -63,7 +63,7 @@ fn kmac_at(s: &[u8], place: usize) -> &[u8]
 // Session keys of the record at a place of the store, and whether session keys are held then.
 pub fn hold(held: bool, s: &[u8], place: usize, ra: u64, rb: u64, keys: &mut [u8]) -> bool
     requires { length keys.old ≡ 24 }
-    ensures { (result ≡ keyedBy (derived (soundKmac s.now place)) held) × (keys.new ≡ keysBy (soundKmac s.now place) ra rb keys.old) }
+    ensures { (result ≡ keyed_by (derived (sound_kmac s.now place)) held) × (keys.new ≡ keys_by (sound_kmac s.now place) ra rb keys.old) }
 {
     if !is_held(s) {
         line(b"store unsound");
@@ -81,7 +81,7 @@ pub fn hold(held: bool, s: &[u8], place: usize, ra: u64, rb: u64, keys: &mut [u8
 
 // A destination as its bytes.
 fn three(x: u32) -> [u8; 3]
-    ensures { result ≡ threeBytes x }
+    ensures { result ≡ three_bytes x }
 {
     [
         (x / 65536 % 256) as u8,

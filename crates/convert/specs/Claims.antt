@@ -4,15 +4,15 @@ use Rattle.std.specs.Prelude.{◌≡◌, true, false, List, ◌⊎◌, ℕ, ◌�
 use Rattle.octets.specs.Bytes.{Bytes, get16}
 use Rattle.refusal.specs.House.{house, gives}
 use Rattle.store.specs.Layout.{total, Bounded, edition1, edition2}
-use Rattle.store.specs.Store.{Entry, peersOf, entries, sound}
+use Rattle.store.specs.Store.{Entry, peers_of, entries, sound}
 use Rattle.store.specs.Search.{find, key}
 use Rattle.store.specs.declared.Limits.{Limits}
-use Rattle.convert.specs.Convert.{answered, converted, convertedAs}
+use Rattle.convert.specs.Convert.{answered, converted, converted_as}
 use Rattle.convert.specs.declared.Converted.{Converted}
 
 -- the target is sound in its edition and has the same entries in the same order
 pub record SameEntries : Type 0 where
-  pub made-sound : (F T : Limits) (from to : List ℕ) → Bounded T → Bytes from → answered F T from to ≡ gives 0 → sound T (converted F T from to) ≡ true
+  pub made_sound : (F T : Limits) (from to : List ℕ) → Bounded T → Bytes from → answered F T from to ≡ gives 0 → sound T (converted F T from to) ≡ true
   pub same : (F T : Limits) (from to : List ℕ) → Bounded T → Bytes from → answered F T from to ≡ gives 0 → entries T (converted F T from to) ≡ entries F from
 
 -- neither way is refused, and there and back gives the same bytes, whatever stood in the two targets
@@ -24,9 +24,9 @@ Returns F T from to back =
 
 -- from every sound store of edition 1, and from every store of edition 2 that is not refused
 pub record ThereAndBack : Type 0 where
-  pub from-edition1 : (from to back : List ℕ) → Bytes from → sound edition1 from ≡ true → length to ≡ total edition2 → length back ≡ total edition1
+  pub from_edition1 : (from to back : List ℕ) → Bytes from → sound edition1 from ≡ true → length to ≡ total edition2 → length back ≡ total edition1
       → Returns edition1 edition2 from to back
-  pub from-edition2 : (from to back : List ℕ) → Bytes from → answered edition2 edition1 from to ≡ gives 0 → length back ≡ total edition2
+  pub from_edition2 : (from to back : List ℕ) → Bytes from → answered edition2 edition1 from to ≡ gives 0 → length back ≡ total edition2
       → Returns edition2 edition1 from to back
 
 -- forward is never refused from a sound store with buffers of the right lengths
@@ -44,20 +44,20 @@ pub record RefusedWritesNothing : Type 0 where
 
 -- H1 exactly where one of the buffers has not the length of its side's edition
 pub record LengthExactly : Type 0 where
-  pub of-source : (F T : Limits) (from to : List ℕ) → (length from ≡ total F → ⊥) → answered F T from to ≡ house 1
-  pub of-target : (F T : Limits) (from to : List ℕ) → (length to ≡ total T → ⊥) → answered F T from to ≡ house 1
+  pub of_source : (F T : Limits) (from to : List ℕ) → (length from ≡ total F → ⊥) → answered F T from to ≡ house 1
+  pub of_target : (F T : Limits) (from to : List ℕ) → (length to ≡ total T → ⊥) → answered F T from to ≡ house 1
   pub only : (F T : Limits) (from to : List ℕ) → answered F T from to ≡ house 1 → (length from ≡ total F → ⊥) ⊎ (length to ≡ total T → ⊥)
 
 -- H12 exactly where both have, and the source is not sound in its edition; so one with the number of another edition in its header
 pub record UnsoundExactly : Type 0 where
   pub refused : (F T : Limits) (from to : List ℕ) → length from ≡ total F → length to ≡ total T → sound F from ≡ false → answered F T from to ≡ house 12
   pub only : (F T : Limits) (from to : List ℕ) → answered F T from to ≡ house 12 → (length from ≡ total F) × (length to ≡ total T) × (sound F from ≡ false)
-  pub other-header : (F T : Limits) (from to : List ℕ) → length from ≡ total F → length to ≡ total T → (get16 from 0 ≡ F.edition → ⊥)
+  pub other_header : (F T : Limits) (from to : List ℕ) → length from ≡ total F → length to ≡ total T → (get16 from 0 ≡ F.edition → ⊥)
       → answered F T from to ≡ house 12
 
 -- more entries or peers than edition 1 has room for
 abbrev pub TooMany : List Entry → Type 0
-TooMany es = (64 < length es) ⊎ (256 < length (peersOf es))
+TooMany es = (64 < length es) ⊎ (256 < length (peers_of es))
 
 -- H14 exactly where both lengths are right, the source is sound and too many are held; so never forward
 pub record NoRoomExactly : Type 0 where
@@ -66,17 +66,17 @@ pub record NoRoomExactly : Type 0 where
   pub only : (from to : List ℕ) → answered edition2 edition1 from to ≡ house 14
       → (length to ≡ total edition1) × (sound edition2 from ≡ true) × TooMany (entries edition2 from)
   pub done : (from to : List ℕ) → length to ≡ total edition1 → sound edition2 from ≡ true → length (entries edition2 from) ≤ 64
-      → length (peersOf (entries edition2 from)) ≤ 256 → answered edition2 edition1 from to ≡ gives 0
-  pub never-forward : (from to : List ℕ) → answered edition1 edition2 from to ≡ house 14 → ⊥
+      → length (peers_of (entries edition2 from)) ≤ 256 → answered edition2 edition1 from to ≡ gives 0
+  pub never_forward : (from to : List ℕ) → answered edition1 edition2 from to ≡ house 14 → ⊥
 
 -- every search has the same answer: place and end, or the refusal, and the 24 bytes
 abbrev pub SameFound : List ℕ → List ℕ → Type 0
 SameFound s s' = (peer t : ℕ) → (find s peer t ≡ find s' peer t) × (key s peer t ≡ key s' peer t)
 
 pub record SameSearch : Type 0 where
-  pub to-edition2 : (from to : List ℕ) → Bytes from → answered edition1 edition2 from to ≡ gives 0 → SameFound (converted edition1 edition2 from to) from
-  pub to-edition1 : (from to : List ℕ) → Bytes from → answered edition2 edition1 from to ≡ gives 0 → SameFound (converted edition2 edition1 from to) from
+  pub to_edition2 : (from to : List ℕ) → Bytes from → answered edition1 edition2 from to ≡ gives 0 → SameFound (converted edition1 edition2 from to) from
+  pub to_edition1 : (from to : List ℕ) → Bytes from → answered edition2 edition1 from to ≡ gives 0 → SameFound (converted edition2 edition1 from to) from
 
 -- the paper's numbers are those of one answer only: a contract that fixes them fixes the answer
 pub record OneAnswer : Type 0 where
-  pub of-conversion : (a b : Converted) → convertedAs a ≡ convertedAs b → a ≡ b
+  pub of_conversion : (a b : Converted) → converted_as a ≡ converted_as b → a ≡ b

@@ -2,16 +2,16 @@
 -- the target's.
 -- Assumes nothing.
 use Rattle.std.specs.Prelude.{◌≡◌, Bool, ◌&&◌, List, ℕ, length, eqb, leb}
-use Rattle.refusal.specs.House.{Answer, house, gives, asks, unlessRefused, houseNumber}
+use Rattle.refusal.specs.House.{Answer, house, gives, asks, unless_refused, house_number}
 use Rattle.store.specs.Layout.{total}
-use Rattle.store.specs.Store.{Entry, peersOf, encode, entries, sound}
+use Rattle.store.specs.Store.{Entry, peers_of, encode, entries, sound}
 use Rattle.store.specs.declared.Limits.{Limits}
 use Rattle.convert.specs.declared.Converted.{Converted}
 use Rattle.convert.specs.declared.Converted.TheVariants as converted_as
 
 -- an edition has room for these entries
-unfoldable pub hasRoom : Limits → List Entry → Bool
-hasRoom L es = leb (length es) L.keys && leb (length (peersOf es)) L.peers
+unfoldable pub has_room : Limits → List Entry → Bool
+has_room L es = leb (length es) L.keys && leb (length (peers_of es)) L.peers
 
 -- what the call answers: H1 of either buffer, H12, H14
 unfoldable pub answered : Limits → Limits → List ℕ → List ℕ → Answer
@@ -19,17 +19,17 @@ answered F T from to =
     asks (eqb (length from) (total F)) 1
     (asks (eqb (length to) (total T)) 1
     (asks (sound F from) 12
-    (asks (hasRoom T (entries F from)) 14 (gives 0))))
+    (asks (has_room T (entries F from)) 14 (gives 0))))
 
 -- the target afterwards: the source's entries as a store of its edition; where the call refuses, the old bytes
 unfoldable pub converted : Limits → Limits → List ℕ → List ℕ → List ℕ
-converted F T from to = unlessRefused (answered F T from to) (encode T (entries F from)) to
+converted F T from to = unless_refused (answered F T from to) (encode T (entries F from)) to
 
-abbrev pub convertedAs : Converted → Answer
-convertedAs converted_as.Done = gives 0
-convertedAs (converted_as.Refused h) = house (houseNumber h)
+abbrev pub converted_as : Converted → Answer
+converted_as converted_as.Done = gives 0
+converted_as (converted_as.Refused h) = house (house_number h)
 
 -- what is promised of a call: its answer, and the target to' that it leaves
 pub record Converts (F T : Limits) (from to to' : List ℕ) (r : Converted) : Type 0 where
-  pub answer : convertedAs r ≡ answered F T from to
+  pub answer : converted_as r ≡ answered F T from to
   pub target : to' ≡ converted F T from to

@@ -2,7 +2,7 @@
 ghost use Rattle.std.specs.Prelude.{◌≡◌, true, eqb, length};
 ghost use Rattle.store.specs.Layout.{total, Bounded, edition1, edition2};
 ghost use Rattle.store.specs.Store.{entries, encode, sound};
-ghost use Rattle.convert.specs.Convert.{hasRoom, Converts};
+ghost use Rattle.convert.specs.Convert.{has_room, Converts};
 
 use octets::copy;
 use refusal::Refusal;
@@ -32,7 +32,7 @@ fn has_length(s: &[u8], lim: Limits) -> bool
 fn write(from: &[u8], source: Limits, to: &mut [u8], target: Limits)
     requires bounded { (Bounded source) × (Bounded target) × (length to.old ≡ total target) }
     requires from_value { sound source from.now ≡ true }
-    requires from_value_2 { hasRoom target (entries source from.now) ≡ true }
+    requires from_value_2 { has_room target (entries source from.now) ≡ true }
     ensures { to.new ≡ encode target (entries source from.now) }
 {
     let n = number_at(from, 2);

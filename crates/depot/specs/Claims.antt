@@ -1,7 +1,7 @@
 -- What is claimed of the counts beside the contracts. proofs/Theorems.antt has a proof of each claim.
 -- Assumes nothing.
 use Rattle.std.specs.Prelude.{◌≡◌, true, false, List, [], map, ℕ, ◌+◌, ◌≤◌, ◌<◌, length}
-use Rattle.store.specs.Layout.{editionOf}
+use Rattle.store.specs.Layout.{edition_of}
 use Rattle.store.specs.Store.{Entry, entries, sound}
 use Rattle.store.specs.Search.{fits}
 use Rattle.store.specs.declared.Limits.{Limits}
@@ -11,7 +11,7 @@ use Rattle.depot.specs.declared.Class.TheVariants.{Fit, Ended, Early, Reversed}
 use Rattle.depot.specs.declared.Tally.{Tally}
 use Rattle.depot.specs.declared.Counted.TheVariants.{Counts, Bad}
 use Rattle.depot.specs.declared.Summed.TheVariants.{Sums, TooLarge}
-use Rattle.depot.specs.Counts.{classOf, tally_of, countsOf, sums, largest, sum_of}
+use Rattle.depot.specs.Counts.{class_of, tally_of, counts_of, sums, largest, sum_of}
 
 -- ---- classes
 
@@ -24,10 +24,10 @@ Means Reversed start end t = end < start
 
 -- every key is in a class that says what is so of it, and in no other; fit is the search's own test
 pub record ClassesMean : Type 0 where
-  pub means : (start end t : ℕ) → Means (classOf start end t) start end t
-  pub exactly : (class : Class) (start end t : ℕ) → Means class start end t → classOf start end t ≡ class
-  pub searched : (start end t : ℕ) → fits start end t ≡ true → classOf start end t ≡ Fit
-  pub only-searched : (start end t : ℕ) → classOf start end t ≡ Fit → fits start end t ≡ true
+  pub means : (start end t : ℕ) → Means (class_of start end t) start end t
+  pub exactly : (class : Class) (start end t : ℕ) → Means class start end t → class_of start end t ≡ class
+  pub searched : (start end t : ℕ) → fits start end t ≡ true → class_of start end t ≡ Fit
+  pub only_searched : (start end t : ℕ) → class_of start end t ≡ Fit → fits start end t ≡ true
 
 -- "the four classes add up to the keys held"
 abbrev pub AddsUp : Tally → Type 0
@@ -35,16 +35,16 @@ AddsUp c = c.fit + c.ended + c.early + c.reversed ≡ c.held
 
 -- for every list of entries, for every store that has counts, and T
 pub record ClassesAddUp : Type 0 where
-  pub of-entries : (t : ℕ) (es : List Entry) → AddsUp (tally_of t es)
-  pub of-store : (s : List ℕ) (t : ℕ) (c : Tally) → countsOf s t ≡ Counts c → AddsUp c
+  pub of_entries : (t : ℕ) (es : List Entry) → AddsUp (tally_of t es)
+  pub of_store : (s : List ℕ) (t : ℕ) (c : Tally) → counts_of s t ≡ Counts c → AddsUp c
 
 -- ---- counts
 
 -- a store of an edition's length that is sound there has the counts of its entries; every other is bad
 pub record CountsExactly : Type 0 where
-  pub given : (L : Limits) (s : List ℕ) (t : ℕ) → editionOf (length s) ≡ Known L → sound L s ≡ true → countsOf s t ≡ Counts (tally_of t (entries L s))
-  pub unsound : (L : Limits) (s : List ℕ) (t : ℕ) → editionOf (length s) ≡ Known L → sound L s ≡ false → countsOf s t ≡ Bad
-  pub no-edition : (s : List ℕ) (t : ℕ) → editionOf (length s) ≡ Unknown → countsOf s t ≡ Bad
+  pub given : (L : Limits) (s : List ℕ) (t : ℕ) → edition_of (length s) ≡ Known L → sound L s ≡ true → counts_of s t ≡ Counts (tally_of t (entries L s))
+  pub unsound : (L : Limits) (s : List ℕ) (t : ℕ) → edition_of (length s) ≡ Known L → sound L s ≡ false → counts_of s t ≡ Bad
+  pub no_edition : (s : List ℕ) (t : ℕ) → edition_of (length s) ≡ Unknown → counts_of s t ≡ Bad
 
 -- an entry without its KMAC
 abbrev pub bare : Entry → Entry

@@ -1,8 +1,8 @@
 -- What the report counts (change request 14): the keys of a store by their periods at a moment T, its peers, and the sums over many stores.
 -- Assumes nothing.
 use Rattle.std.specs.Prelude.{Bool, cond, List, [], ◌∷◌, ℕ, ◌+◌, length, leb, ltb}
-use Rattle.store.specs.Layout.{editionOf}
-use Rattle.store.specs.Store.{Entry, entries, peersOf, sound, allHold}
+use Rattle.store.specs.Layout.{edition_of}
+use Rattle.store.specs.Store.{Entry, entries, peers_of, sound, all_hold}
 use Rattle.store.specs.Search.{fits}
 use Rattle.store.specs.declared.Edition.{Edition}
 use Rattle.store.specs.declared.Edition.TheVariants.{Known, Unknown}
@@ -11,7 +11,7 @@ use Rattle.depot.specs.declared.Class.TheVariants.{Fit, Ended, Early, Reversed}
 use Rattle.depot.specs.declared.Classes.{Classes}
 use Rattle.depot.specs.declared.Tally.{Tally}
 use Rattle.depot.specs.declared.Counted.{Counted}
-use Rattle.depot.specs.declared.Counted.TheVariants as counted-as
+use Rattle.depot.specs.declared.Counted.TheVariants as counted_as
 use Rattle.depot.specs.declared.Summed.{Summed}
 use Rattle.depot.specs.declared.Summed.TheVariants as summed-as
 
@@ -19,43 +19,43 @@ use Rattle.depot.specs.declared.Summed.TheVariants as summed-as
 
 -- the first that applies: start after end ("counts under a heading of its own and in no other class"), T before start ("not begun"),
 -- the very rule of the key search ("the rule in force"), and else ended
-abbrev pub classOf : ℕ → ℕ → ℕ → Class
-classOf start end t = cond (ltb end start) Reversed (cond (ltb t start) Early (cond (fits start end t) Fit Ended))
+abbrev pub class_of : ℕ → ℕ → ℕ → Class
+class_of start end t = cond (ltb end start) Reversed (cond (ltb t start) Early (cond (fits start end t) Fit Ended))
 
-abbrev pub classIn : ℕ → Entry → Class
-classIn t e = classOf e.start e.end t
+abbrev pub class_in : ℕ → Entry → Class
+class_in t e = class_of e.start e.end t
 
 -- one key more in a class
-abbrev pub oneMore : Class → Classes → Classes
-oneMore Fit c = record { fit = c.fit + 1; ended = c.ended; early = c.early; reversed = c.reversed }
-oneMore Ended c = record { fit = c.fit; ended = c.ended + 1; early = c.early; reversed = c.reversed }
-oneMore Early c = record { fit = c.fit; ended = c.ended; early = c.early + 1; reversed = c.reversed }
-oneMore Reversed c = record { fit = c.fit; ended = c.ended; early = c.early; reversed = c.reversed + 1 }
+abbrev pub one_more : Class → Classes → Classes
+one_more Fit c = record { fit = c.fit + 1; ended = c.ended; early = c.early; reversed = c.reversed }
+one_more Ended c = record { fit = c.fit; ended = c.ended + 1; early = c.early; reversed = c.reversed }
+one_more Early c = record { fit = c.fit; ended = c.ended; early = c.early + 1; reversed = c.reversed }
+one_more Reversed c = record { fit = c.fit; ended = c.ended; early = c.early; reversed = c.reversed + 1 }
 
 -- how many entries are in each class
-unfoldable pub classesOf : ℕ → List Entry → Classes
-classesOf t [] = record { fit = 0; ended = 0; early = 0; reversed = 0 }
-classesOf t (e ∷ es) = oneMore (classIn t e) (classesOf t es)
+unfoldable pub classes_of : ℕ → List Entry → Classes
+classes_of t [] = record { fit = 0; ended = 0; early = 0; reversed = 0 }
+classes_of t (e ∷ es) = one_more (class_in t e) (classes_of t es)
 
 -- the keys of all four classes
-abbrev pub inAll : Classes → ℕ
-inAll c = c.fit + c.ended + c.early + c.reversed
+abbrev pub in_all : Classes → ℕ
+in_all c = c.fit + c.ended + c.early + c.reversed
 
 -- ---- the counts of a store
 
 -- keys held, the four classes, peers held
 unfoldable pub tally_of : ℕ → List Entry → Tally
 tally_of t es =
-    let c = classesOf t es in
-    record { held = length es; fit = c.fit; ended = c.ended; early = c.early; reversed = c.reversed; peers = length (peersOf es) }
+    let c = classes_of t es in
+    record { held = length es; fit = c.fit; ended = c.ended; early = c.early; reversed = c.reversed; peers = length (peers_of es) }
 
 -- "is unsound or has a wrong length": bad
-unfoldable pub countsIn : Edition → List ℕ → ℕ → Counted
-countsIn Unknown s t = counted-as.Bad
-countsIn (Known L) s t = cond (sound L s) (counted-as.Counts (tally_of t (entries L s))) counted-as.Bad
+unfoldable pub counts_in : Edition → List ℕ → ℕ → Counted
+counts_in Unknown s t = counted_as.Bad
+counts_in (Known L) s t = cond (sound L s) (counted_as.Counts (tally_of t (entries L s))) counted_as.Bad
 
-unfoldable pub countsOf : List ℕ → ℕ → Counted
-countsOf s t = countsIn (editionOf (length s)) s t
+unfoldable pub counts_of : List ℕ → ℕ → Counted
+counts_of s t = counts_in (edition_of (length s)) s t
 
 -- ---- sums
 
@@ -86,4 +86,4 @@ rooms a b =
     ∷ []
 
 unfoldable pub sum_of : Tally → Tally → Summed
-sum_of a b = cond (allHold (rooms a b)) (summed-as.Sums (sums a b)) summed-as.TooLarge
+sum_of a b = cond (all_hold (rooms a b)) (summed-as.Sums (sums a b)) summed-as.TooLarge

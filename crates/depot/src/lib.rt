@@ -4,7 +4,7 @@ mod sums;
 
 ghost use Rattle.std.specs.Prelude.{◌≡◌};
 ghost use Rattle.store.specs.Layout.{Bounded};
-ghost use Rattle.depot.specs.Counts.{countsIn, countsOf, sum_of};
+ghost use Rattle.depot.specs.Counts.{counts_in, counts_of, sum_of};
 
 use periods::classes_of;
 use store::editions::edition_of;
@@ -59,7 +59,7 @@ pub enum Summed {
 // The counts of a store of this edition.
 fn counts_in(s: &[u8], lim: Limits, t: u32) -> Counted
     requires { Bounded lim }
-    ensures { result ≡ countsIn (Edition.Known lim) s.now t }
+    ensures { result ≡ counts_in (Edition.Known lim) s.now t }
 {
     if !is_sound(s, lim) {
         return Counted::Bad;
@@ -77,7 +77,7 @@ fn counts_in(s: &[u8], lim: Limits, t: u32) -> Counted
 
 // The counts of a store of either edition at the moment t; bad where it has no edition's length, or is unsound.
 pub fn counts(s: &[u8], t: u32) -> Counted
-    ensures { result ≡ countsOf s.now t }
+    ensures { result ≡ counts_of s.now t }
 {
     match edition_of(s.len()) {
         Edition::Known(lim) => counts_in(s, lim, t),

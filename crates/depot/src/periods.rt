@@ -1,7 +1,7 @@
 // The keys of a store by their periods.
 ghost use Rattle.std.specs.Prelude.{◌≡◌, true, ◌<◌};
-ghost use Rattle.store.specs.Store.{keyCount, entry_at, entries, sound};
-ghost use Rattle.depot.specs.Counts.{classOf, classIn, oneMore, inAll, classesOf};
+ghost use Rattle.store.specs.Store.{key_count, entry_at, entries, sound};
+ghost use Rattle.depot.specs.Counts.{class_of, class_in, one_more, in_all, classes_of};
 
 use super::{Class, Classes};
 use octets::get32_at;
@@ -11,7 +11,7 @@ use store::{KEYS_AT, Limits, RECORD};
 
 // The class of a key with this start and end at the moment t.
 fn class_of(start: u32, end: u32, t: u32) -> Class
-    ensures { result ≡ classOf start «end» t }
+    ensures { result ≡ class_of start «end» t }
 {
     if end < start {
         return Class::Reversed;
@@ -28,17 +28,17 @@ fn class_of(start: u32, end: u32, t: u32) -> Class
 // The class of record i of a sound store.
 fn class_at(s: &[u8], lim: Limits, i: usize, t: u32) -> Class
     requires s_value { sound lim s.now ≡ true }
-    requires i_bound { i < keyCount s.now }
-    ensures { result ≡ classIn t (entry_at lim s.now i) }
+    requires i_bound { i < key_count s.now }
+    ensures { result ≡ class_in t (entry_at lim s.now i) }
 {
     let at = KEYS_AT + RECORD * i;
     class_of(get32_at(s, at + 32), get32_at(s, at + 36), t)
 }
 
 // One key more in a class.
-fn one_more(c: Classes, class: Class) -> Classes
-    requires { inAll c < 65536 }
-    ensures { result ≡ oneMore class c }
+fn one_more_lem(c: Classes, class: Class) -> Classes
+    requires { in_all c < 65536 }
+    ensures { result ≡ one_more class c }
 {
     match class {
         Class::Fit => Classes {
@@ -68,10 +68,10 @@ fn one_more(c: Classes, class: Class) -> Classes
     }
 }
 
-// How many keys of a sound store are in each class, inAll from the last to the first.
+// How many keys of a sound store are in each class, in_all from the last to the first.
 pub fn classes_of(s: &[u8], lim: Limits, t: u32) -> Classes
     requires { sound lim s.now ≡ true }
-    ensures { result ≡ classesOf t (entries lim s.now) }
+    ensures { result ≡ classes_of t (entries lim s.now) }
 {
     let n = number_at(s, 2);
     let mut c = Classes {
@@ -83,7 +83,7 @@ pub fn classes_of(s: &[u8], lim: Limits, t: u32) -> Classes
     let mut i = n;
     while i > 0 {
         i -= 1;
-        c = one_more(c, class_at(s, lim, i, t));
+        c = one_more_lem(c, class_at(s, lim, i, t));
     }
     c
 }

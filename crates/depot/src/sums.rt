@@ -1,6 +1,6 @@
 // Sums that are numbers of four bytes.
 ghost use Rattle.std.specs.Prelude.{◌≡◌, true, ◌&&◌, leb, ◌+◌};
-ghost use Rattle.store.specs.Store.{allHold};
+ghost use Rattle.store.specs.Store.{all_hold};
 ghost use Rattle.depot.specs.Counts.{largest, rooms, sums};
 
 use super::Tally;
@@ -17,7 +17,7 @@ fn has_room(a: u32, b: u32, others: bool) -> bool
 
 // Whether each sum is a number of four bytes.
 pub fn have_room(a: Tally, b: Tally) -> bool
-    ensures { result ≡ allHold (rooms a b) }
+    ensures { result ≡ all_hold (rooms a b) }
 {
     let peers = has_room(a.peers, b.peers, true);
     let reversed = has_room(a.reversed, b.reversed, peers);
@@ -28,7 +28,7 @@ pub fn have_room(a: Tally, b: Tally) -> bool
 }
 
 pub fn plus(a: Tally, b: Tally) -> Tally
-    requires { allHold (rooms a b) ≡ true }
+    requires { all_hold (rooms a b) ≡ true }
     ensures { result ≡ sums a b }
 {
     Tally {

@@ -10,7 +10,7 @@ use lib.Pow.{pow_pos, split, high, shr-shr, mod-pow-add}
 use lib.Bits.{bit_xor, xor_shr, xor_add_and}
 use lib.ListN.{length, take, drop}
 use lib.Seq.{take_at, drop_at}
-use Rattle.des.specs.Bits.{bits, valueFrom, value, xorBits}
+use Rattle.des.specs.Bits.{bits, value_from, value, xor_bits}
 
 pub length-bits : (w x : ℕ) → length (bits w x) ≡ w
 unfolding bits
@@ -35,8 +35,8 @@ drop_bits a b x = rw split-bits (drop_at (bits a (x / 2 ^ b)) (bits b x) a (leng
 twice-up : (a w b : ℕ) → a * 2 ^ suc w + b ≡ a * 2 * 2 ^ w + b
 twice-up a w b = ap (λ (n : ℕ). n + b) (ap (λ (n : ℕ). a * n) (pow-suc 2 w ∙ mul_comm (2 ^ w) 2) ∙ sym (mul_assoc a 2 (2 ^ w)))
 
-head-free : (a w b : ℕ) → (a * 2 ^ suc w + b) / 2 ^ w % 2 ≡ b / 2 ^ w % 2
-head-free a w b =
+head_free : (a w b : ℕ) → (a * 2 ^ suc w + b) / 2 ^ w % 2 ≡ b / 2 ^ w % 2
+head_free a w b =
     ap (λ (n : ℕ). n / 2 ^ w % 2) (twice-up a w b ∙ add_comm (a * 2 * 2 ^ w) b)
     ∙ ap (λ (n : ℕ). n % 2) (add-mul-div_right b (a * 2) (pow_pos w))
     ∙ omega arith
@@ -44,27 +44,27 @@ head-free a w b =
 low_free : (w a b : ℕ) → bits w (a * 2 ^ w + b) ≡ bits w b
 unfolding bits
 low_free zero a b = refl
-low_free (suc w) a b = ap₂ (λ (h : ℕ) (t : List ℕ). h ∷ t) (head-free a w b) (ap (bits w) (twice-up a w b) ∙ low_free w (a * 2) b)
+low_free (suc w) a b = ap₂ (λ (h : ℕ) (t : List ℕ). h ∷ t) (head_free a w b) (ap (bits w) (twice-up a w b) ∙ low_free w (a * 2) b)
 
-pub mod-bits : (w x : ℕ) → bits w (x % 2 ^ w) ≡ bits w x
-mod-bits w x = sym (low_free w (x / 2 ^ w) (x % 2 ^ w)) ∙ ap (bits w) (split x w)
+pub mod_bits : (w x : ℕ) → bits w (x % 2 ^ w) ≡ bits w x
+mod_bits w x = sym (low_free w (x / 2 ^ w) (x % 2 ^ w)) ∙ ap (bits w) (split x w)
 
 -- two numbers in one
 pub join-bits : (a b x y : ℕ) → y < 2 ^ b → bits (a + b) (x * 2 ^ b + y) ≡ bits a x ++ bits b y
 join-bits a b x y h = split-bits a b (x * 2 ^ b + y) ∙ ap₂ (λ (s t : List ℕ). s ++ t) (ap (bits a) (high x b h)) (low_free b x y)
 
 -- `xor` is the sum modulo 2 of each bit
-pub xor-digit : (x y : ℕ) → bit_xor x y % 2 ≡ (x % 2 + y % 2) % 2
-xor-digit x y = omega (arith, xor_add_and x y)
+pub xor_digit : (x y : ℕ) → bit_xor x y % 2 ≡ (x % 2 + y % 2) % 2
+xor_digit x y = omega (arith, xor_add_and x y)
 
-pub xor-bits : (w x y : ℕ) → bits w (bit_xor x y) ≡ xorBits (bits w x) (bits w y)
-unfolding bits xorBits
-xor-bits zero x y = refl
-xor-bits (suc w) x y = ap₂ (λ (h : ℕ) (t : List ℕ). h ∷ t) (ap (λ (n : ℕ). n % 2) (xor_shr x y w) ∙ xor-digit (x / 2 ^ w) (y / 2 ^ w)) (xor-bits w x y)
+pub xor_bits_lem : (w x y : ℕ) → bits w (bit_xor x y) ≡ xor_bits (bits w x) (bits w y)
+unfolding bits xor_bits
+xor_bits_lem zero x y = refl
+xor_bits_lem (suc w) x y = ap₂ (λ (h : ℕ) (t : List ℕ). h ∷ t) (ap (λ (n : ℕ). n % 2) (xor_shr x y w) ∙ xor_digit (x / 2 ^ w) (y / 2 ^ w)) (xor_bits_lem w x y)
 
 -- the number that the bits represent
-value-from-bits : (w n x : ℕ) → valueFrom n (bits w x) ≡ n * 2 ^ w + x % 2 ^ w
-unfolding bits valueFrom
+value-from-bits : (w n x : ℕ) → value_from n (bits w x) ≡ n * 2 ^ w + x % 2 ^ w
+unfolding bits value_from
 value-from-bits zero n x = omega arith
 value-from-bits (suc w) n x =
     value-from-bits w (n * 2 + x / 2 ^ w % 2) x

@@ -10,9 +10,9 @@ use lib.Dec.{lit<}
 use lib.Pow.{shr-shr}
 use lib.ListN.{length, get_or, take, drop, length-append, length-take, length-drop, length-map}
 use lib.Seq.{get_or-drop}
-use Rattle.des.specs.Bits.{bits, value, valueFrom, xorBits}
+use Rattle.des.specs.Bits.{bits, value, value_from, xor_bits}
 use Rattle.des.specs.Tables.{p}
-use Rattle.des.specs.Des.{permute, cipherFunction, swap}
+use Rattle.des.specs.Des.{permute, cipher_function, swap}
 
 -- each element is a zero or a one
 abbrev pub Small : List ℕ → Type 0
@@ -53,11 +53,11 @@ pub small-swap : (n : ℕ) (bs : List ℕ) → Small bs → Small (swap n bs)
 unfolding swap
 small-swap n bs h = small-append (drop n bs) (take n bs) (small-drop n bs h) (small-take n bs h)
 
-pub small-xor : (a b : List ℕ) → Small (xorBits a b)
-unfolding xorBits
-small-xor [] b = small-nil
-small-xor (x ∷ a) [] = small-nil
-small-xor (x ∷ a) (y ∷ b) = small-cons ((x + y) % 2) (xorBits a b) (omega arith) (small-xor a b)
+pub small_xor : (a b : List ℕ) → Small (xor_bits a b)
+unfolding xor_bits
+small_xor [] b = small-nil
+small_xor (x ∷ a) [] = small-nil
+small_xor (x ∷ a) (y ∷ b) = small-cons ((x + y) % 2) (xor_bits a b) (omega arith) (small_xor a b)
 
 pub small-bits : (w x : ℕ) → Small (bits w x)
 unfolding bits
@@ -70,14 +70,14 @@ pub length-permute : (t bs : List ℕ) → length (permute t bs) ≡ length t
 unfolding permute
 length-permute t bs = length-map t (λ (k : ℕ). get_or bs (k - 1) 0)
 
-pub length-xor : (a b : List ℕ) → length a ≤ length b → length (xorBits a b) ≡ length a
-unfolding xorBits
-length-xor [] b h = refl
-length-xor (x ∷ a) [] h = absurd (not-suc-le-zero h)
-length-xor (x ∷ a) (y ∷ b) h = ap suc (length-xor a b (le_of_suc-le-suc h))
+pub length_xor : (a b : List ℕ) → length a ≤ length b → length (xor_bits a b) ≡ length a
+unfolding xor_bits
+length_xor [] b h = refl
+length_xor (x ∷ a) [] h = absurd (not-suc-le-zero h)
+length_xor (x ∷ a) (y ∷ b) h = ap suc (length_xor a b (le_of_suc-le-suc h))
 
-pub length-f : (r k : List ℕ) → length (cipherFunction r k) ≡ 32
-unfolding cipherFunction p
+pub length-f : (r k : List ℕ) → length (cipher_function r k) ≡ 32
+unfolding cipher_function p
 length-f r k = length-permute p _
 
 pub length-swap : (n : ℕ) (bs : List ℕ) → length (swap n bs) ≡ length bs
@@ -86,17 +86,17 @@ length-swap n bs = omega (arith, length-append (drop n bs) (take n bs), length-d
 
 -- ---- the number that bits represent has these bits
 
-pub value-high : (n : ℕ) (bs : List ℕ) → Small bs → valueFrom n bs / 2 ^ length bs ≡ n
-unfolding valueFrom
+pub value-high : (n : ℕ) (bs : List ℕ) → Small bs → value_from n bs / 2 ^ length bs ≡ n
+unfolding value_from
 value-high n [] s = omega arith
 value-high n (x ∷ bs) s =
     let x2 : x < 2 = s zero in
     let q : (n * 2 + x) / 2 ≡ n = omega arith in
-    ap (λ (k : ℕ). valueFrom (n * 2 + x) bs / 2 ^ k) (sym (add-one (length bs))) ∙ sym (shr-shr (valueFrom (n * 2 + x) bs) (length bs) 1)
+    ap (λ (k : ℕ). value_from (n * 2 + x) bs / 2 ^ k) (sym (add-one (length bs))) ∙ sym (shr-shr (value_from (n * 2 + x) bs) (length bs) 1)
     ∙ ap (λ (k : ℕ). k / 2) (value-high (n * 2 + x) bs (λ i. s (suc i))) ∙ q
 
-bits-from : (n : ℕ) (bs : List ℕ) → Small bs → bits (length bs) (valueFrom n bs) ≡ bs
-unfolding bits valueFrom
+bits-from : (n : ℕ) (bs : List ℕ) → Small bs → bits (length bs) (value_from n bs) ≡ bs
+unfolding bits value_from
 bits-from n [] s = refl
 bits-from n (x ∷ bs) s =
     let x2 : x < 2 = s zero in

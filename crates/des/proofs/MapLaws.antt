@@ -7,7 +7,7 @@ use Prim.Native.Nat.{ℕ, zero, suc, ◌<◌}
 use native.Mathlib.Nat.{le_of_suc-le-suc, not-suc-le-zero}
 use lib.ListN.{length, get_or, take, drop}
 use Rattle.octets.proofs.BoolLaws.{and_left, and_right}
-use Rattle.des.specs.Des.{swap, shiftBoth}
+use Rattle.des.specs.Des.{swap, shift_both}
 use Rattle.des.specs.Words.{every}
 
 pub get_d_map : (f : ℕ → ℕ) (l : List ℕ) (n : ℕ) → n < length l → get_or (map f l) n 0 ≡ f (get_or l n 0)
@@ -29,9 +29,9 @@ pub swap-map : (f : ℕ → ℕ) (n : ℕ) (l : List ℕ) → swap n (map f l) �
 unfolding swap
 swap-map f n l = simp (take-map, drop-map, map-append)
 
-pub shift-map : (f : ℕ → ℕ) (n : ℕ) (l : List ℕ) → shiftBoth n (map f l) ≡ map f (shiftBoth n l)
-unfolding shiftBoth
-shift-map f n l = simp (take-map, drop-map, swap-map, map-append)
+pub shift_map : (f : ℕ → ℕ) (n : ℕ) (l : List ℕ) → shift_both n (map f l) ≡ map f (shift_both n l)
+unfolding shift_both
+shift_map f n l = simp (take-map, drop-map, swap-map, map-append)
 
 -- what a test over a whole list says of each element
 pub every-at : (p : ℕ → Bool) (xs : List ℕ) → every p xs ≡ true → (i : ℕ) → i < length xs → p (get_or xs i 0) ≡ true

@@ -11,9 +11,9 @@ use lib.Dec.{ltb, lit≤}
 use borrow.Author.Tests.{ltb-true, ltb-false}
 use lib.ListN.{length, get_or, get_or-append}
 use lib.Seq.{get_or-append-add}
-use Rattle.des.specs.Bits.{bits, bitsOfBytes}
+use Rattle.des.specs.Bits.{bits, bits_of_bytes}
 use Rattle.des.specs.Tables.{pc1, pc2, shifts}
-use Rattle.des.specs.Des.{permute, shiftBoth, shifted, subkey, encipherBits, decipherBits}
+use Rattle.des.specs.Des.{permute, shift_both, shifted, subkey, encipher_bits, decipher_bits}
 use Rattle.des.specs.Claims.{SameButParity}
 use Rattle.des.proofs.MapLaws.{map-every}
 use Rattle.des.proofs.BitLaws.{length-bits, split-bits}
@@ -29,19 +29,19 @@ used k = ltb 0 (k % 8)
 same-shifted : (a b : List ℕ) → SameUsed a b → (n : ℕ) → shifted a n ≡ shifted b n
 unfolding shifted permute pc1 used
 same-shifted a b h zero = map-every used (λ (k : ℕ). get_or a (k - 1) 0) (λ (k : ℕ). get_or b (k - 1) 0) (λ k t. h.agree k (ltb-true 0 (k % 8) t)) pc1 refl
-same-shifted a b h (suc n) = ap (shiftBoth (get_or shifts n 0)) (same-shifted a b h n)
+same-shifted a b h (suc n) = ap (shift_both (get_or shifts n 0)) (same-shifted a b h n)
 
 same-subkey : (a b : List ℕ) → SameUsed a b → (n : ℕ) → subkey a n ≡ subkey b n
 unfolding subkey
 same-subkey a b h n = ap (permute pc2) (same-shifted a b h (suc n))
 
-pub same-encipher : (a b bs : List ℕ) → SameUsed a b → encipherBits a bs ≡ encipherBits b bs
-unfolding encipherBits
-same-encipher a b bs h = cipher-by (λ (n : ℕ). subkey a n) (λ (n : ℕ). subkey b n) bs (λ m l. same-subkey a b h m)
+pub same_encipher : (a b bs : List ℕ) → SameUsed a b → encipher_bits a bs ≡ encipher_bits b bs
+unfolding encipher_bits
+same_encipher a b bs h = cipher-by (λ (n : ℕ). subkey a n) (λ (n : ℕ). subkey b n) bs (λ m l. same-subkey a b h m)
 
-pub same-decipher : (a b bs : List ℕ) → SameUsed a b → decipherBits a bs ≡ decipherBits b bs
-unfolding decipherBits
-same-decipher a b bs h = cipher-by (λ (n : ℕ). subkey a (15 - n)) (λ (n : ℕ). subkey b (15 - n)) bs (λ m l. same-subkey a b h (15 - m))
+pub same_decipher : (a b bs : List ℕ) → SameUsed a b → decipher_bits a bs ≡ decipher_bits b bs
+unfolding decipher_bits
+same_decipher a b bs h = cipher-by (λ (n : ℕ). subkey a (15 - n)) (λ (n : ℕ). subkey b (15 - n)) bs (λ m l. same-subkey a b h (15 - m))
 
 -- ---- the bits of bytes
 
@@ -66,20 +66,20 @@ side k = go (ltb k 8) refl
     go true e = inl (ltb-true k 8 e)
     go false e = inr (ltb-false k 8 e)
 
-parity-at : (a b : List ℕ) → SameButParity a b → (k : ℕ) → 0 < (k + 1) % 8 → get_or (bitsOfBytes a) k 0 ≡ get_or (bitsOfBytes b) k 0
-unfolding bitsOfBytes
+parity-at : (a b : List ℕ) → SameButParity a b → (k : ℕ) → 0 < (k + 1) % 8 → get_or (bits_of_bytes a) k 0 ≡ get_or (bits_of_bytes b) k 0
+unfolding bits_of_bytes
 parity-at [] [] e k h = refl
 parity-at [] (y ∷ b) e k h = absurd (not-suc-le-zero (subst (λ (n : ℕ). n ≤ 0) e.long (lit≤ tt)))
 parity-at (x ∷ a) [] e k h = absurd (not-suc-le-zero (subst⁻¹ (λ (n : ℕ). n ≤ 0) e.long (lit≤ tt)))
 parity-at (x ∷ a) (y ∷ b) e k h =
     let l : length a ≡ length b = omega (arith, e.long) in
     ⊎_elim
-    (λ (p : k < 8). byte-first x y (bitsOfBytes a) (bitsOfBytes b) k (e.high zero) (omega arith))
+    (λ (p : k < 8). byte-first x y (bits_of_bytes a) (bits_of_bytes b) k (e.high zero) (omega arith))
     (λ (p : 8 ≤ k).
-    byte_next x (bitsOfBytes a) k p
+    byte_next x (bits_of_bytes a) k p
     ∙ parity-at a b (record { long = l; high = λ i. e.high (suc i) }) (k - 8) (omega arith)
-    ∙ sym (byte_next y (bitsOfBytes b) k p))
+    ∙ sym (byte_next y (bits_of_bytes b) k p))
     (side k)
 
-pub same-used : (a b : List ℕ) → SameButParity a b → SameUsed (bitsOfBytes a) (bitsOfBytes b)
+pub same-used : (a b : List ℕ) → SameButParity a b → SameUsed (bits_of_bytes a) (bits_of_bytes b)
 same-used a b e = record { agree = λ k h. parity-at a b e (k - 1) (omega arith) }

@@ -15,9 +15,9 @@ use lib.ListN.{length, get_or, take, drop}
 use lib.Seq.{get_or_at, drop-append-le}
 use Rattle.octets.specs.Bytes.{part}
 use Rattle.octets.proofs.BoolLaws.{and_left, and_right}
-use Rattle.octets.proofs.PartLaws.{part-add, part-snoc}
-use Rattle.des.specs.Bits.{bits, value, valueFrom, xorBits}
-use Rattle.des.specs.Des.{permute, row, column, select, selects, swap, shiftBoth, round, cipherFunction}
+use Rattle.octets.proofs.PartLaws.{part-add, part_snoc}
+use Rattle.des.specs.Bits.{bits, value, value_from, xor_bits}
+use Rattle.des.specs.Des.{permute, row, column, select, selects, swap, shift_both, round, cipher_function}
 use Rattle.des.specs.Tables.{sboxes}
 use Rattle.des.specs.Words.{Holds, Names, Rows}
 use Rattle.des.proofs.MapLaws.{every-at}
@@ -65,7 +65,7 @@ row_step w x t from i r n h s p =
     recast (pushed i 1 s p (whole 1 _ b))
     (ap (λ (l : List ℕ). permute (part t from i) (bits w x) ++ l)
     (one_bit _ b ∙ ap (λ (n : ℕ). n ∷ []) (m ∙ sym (named w k x v.0 v.1)) ∙ sym (permute-one k (bits w x)))
-    ∙ sym (permute-append (part t from i) (k ∷ []) (bits w x)) ∙ ap (λ (l : List ℕ). permute l (bits w x)) (sym (part-snoc t from i h)))
+    ∙ sym (permute-append (part t from i) (k ∷ []) (bits w x)) ∙ ap (λ (l : List ℕ). permute l (bits w x)) (sym (part_snoc t from i h)))
 
 -- a table's rows: eight, each within the table, none yet, and one more
 pub eight-rows : {w n : ℕ} {t : List ℕ} → Rows w n t → length t / n ≡ 8
@@ -90,11 +90,11 @@ rows_step w x n t i h hr hq =
     ∙ ap (λ (l : List ℕ). permute l (bits w x)) (ap (λ (k : ℕ). part t 0 (n * i) ++ part t k n) (sym (zero-add (n * i))) ∙ sym (part-add t 0 (n * i) n) ∙ ap (part t 0) e)))
 
 -- a table that is lent, and what is worked by it
-pub rows-lent : {w n : ℕ} {t u : List ℕ} → t ≡ u → Rows w n u → Rows w n t
-rows-lent {w} {n} e r = subst⁻¹ (λ (l : List ℕ). Rows w n l) e r
+pub rows_lent : {w n : ℕ} {t u : List ℕ} → t ≡ u → Rows w n u → Rows w n t
+rows_lent {w} {n} e r = subst⁻¹ (λ (l : List ℕ). Rows w n l) e r
 
-pub worked-lent : (bs : List ℕ) {v r : ℕ} {t u : List ℕ} → t ≡ u → Holds v r (permute t bs) → Holds v r (permute u bs)
-worked-lent bs e h = recast h (ap (λ (l : List ℕ). permute l bs) e)
+pub worked_lent : (bs : List ℕ) {v r : ℕ} {t u : List ℕ} → t ≡ u → Holds v r (permute t bs) → Holds v r (permute u bs)
+worked_lent bs e h = recast h (ap (λ (l : List ℕ). permute l bs) e)
 
 -- ---- left shifts
 
@@ -117,8 +117,8 @@ rotated w n x h l =
     ∙ drop-append-le n (bits w x) (bits n (y / 2 ^ (w - n))) long ∙ ap (λ (t : List ℕ). drop n (bits w x) ++ t) top)
 
 pub shifted-both : (n cd : ℕ) {a b : ℕ} → Holds 28 a (swap n (bits 28 (cd / 2 ^ 28))) → Holds 28 b (swap n (bits 28 cd))
-    → Holds 56 (bit_or (a * 2 ^ 28 % 2 ^ 64) b) (shiftBoth n (bits 56 cd))
-unfolding shiftBoth
+    → Holds 56 (bit_or (a * 2 ^ 28 % 2 ^ 64) b) (shift_both n (bits 56 cd))
+unfolding shift_both
 shifted-both n cd ha hb =
     recast (pushed 28 28 (lit≤ tt) ha hb)
     (ap₂ (λ (s t : List ℕ). swap n s ++ swap n t) (sym (take-bits 28 28 cd)) (sym (drop_bits 28 28 cd)))
@@ -133,13 +133,13 @@ exchanged s h =
 
 -- ---- the iteration
 
-pub rounded : (lr k q : ℕ) → lr < 2 ^ 64 → Holds 32 q (cipherFunction (bits 32 (bit_and lr (2 ^ 32 - 1))) (bits 48 k))
+pub rounded : (lr k q : ℕ) → lr < 2 ^ 64 → Holds 32 q (cipher_function (bits 32 (bit_and lr (2 ^ 32 - 1))) (bits 48 k))
     → bits 64 (bit_or (bit_and lr (2 ^ 32 - 1) * 2 ^ 32 % 2 ^ 64) (bit_xor (lr / 2 ^ 32) q)) ≡ round (bits 48 k) (bits 64 lr)
 unfolding round
 rounded lr k q h hq =
     (pushed 32 32 (lit≤ tt) (masked 32 lr) (xored 32 (whole 32 (lr / 2 ^ 32) (shr_lt 32 32 h)) hq)).same
     ∙ ap₂ (λ (a b : List ℕ). a ++ b) (sym (drop_bits 32 32 lr))
-    (ap₂ xorBits (sym (take-bits 32 32 lr)) (ap (λ (a : List ℕ). cipherFunction a (bits 48 k)) ((masked 32 lr).same ∙ sym (drop_bits 32 32 lr))))
+    (ap₂ xor_bits (sym (take-bits 32 32 lr)) (ap (λ (a : List ℕ). cipher_function a (bits 48 k)) ((masked 32 lr).same ∙ sym (drop_bits 32 32 lr))))
 
 -- ---- the S-boxes
 
@@ -168,16 +168,16 @@ pub column-number : (g : ℕ) → bit_and (g / 2) 15 ≡ g / 2 % 16
 column-number g = and_mask (g / 2) 4
 
 row-bits : (g : ℕ) → g < 64 → row (bits 6 g) ≡ g / 32 * 2 + g % 2
-unfolding row bits value valueFrom
+unfolding row bits value value_from
 row-bits g h = omega arith
 
 column-bits : (g : ℕ) → column (bits 6 g) ≡ g / 2 % 16
 unfolding column
 column-bits g = ap value (part-bits 1 4 1 g) ∙ value-bits 4 (g / 2)
 
-pub length-boxes : length sboxes ≡ 512
+pub length_boxes : length sboxes ≡ 512
 unfolding sboxes
-length-boxes = refl
+length_boxes = refl
 
 small : (n : ℕ) → n < 512 → get_or sboxes n 0 < 16
 unfolding sboxes

@@ -8,9 +8,9 @@ use lib.Arith.{digits_lt}
 use lib.Pow.{pow_pos, pow-add, shl_exact}
 use lib.Bits.{bit_and, bit_or, bit_xor, or_shifted, and_mask, xor_lt}
 use lib.ListN.{take, drop}
-use Rattle.des.specs.Bits.{bits, xorBits}
+use Rattle.des.specs.Bits.{bits, xor_bits}
 use Rattle.des.specs.Words.{Holds}
-use Rattle.des.proofs.BitLaws.{take-bits, drop_bits, mod-bits, join-bits, xor-bits}
+use Rattle.des.proofs.BitLaws.{take-bits, drop_bits, mod_bits, join-bits, xor_bits_lem}
 
 pub recast : {w x : ℕ} {bs cs : List ℕ} → Holds w x bs → bs ≡ cs → Holds w x cs
 recast h e = record { fits = h.fits; same = h.same ∙ e }
@@ -38,7 +38,7 @@ pub masked : (k x : ℕ) → Holds k (bit_and x (2 ^ k - 1)) (bits k x)
 masked k x =
     record {
       fits = subst⁻¹ (λ (n : ℕ). n < 2 ^ k) (and_mask x k) (mod-lt x (pow_pos k));
-      same = ap (bits k) (and_mask x k) ∙ mod-bits k x;
+      same = ap (bits k) (and_mask x k) ∙ mod_bits k x;
     }
 
 pub whole : (k x : ℕ) → x < 2 ^ k → Holds k x (bits k x)
@@ -46,9 +46,9 @@ whole k x h = record { fits = h; same = refl }
 
 -- ---- `^` and parts
 
-pub xored : (w : ℕ) {x y : ℕ} {bs cs : List ℕ} → Holds w x bs → Holds w y cs → Holds w (bit_xor x y) (xorBits bs cs)
+pub xored : (w : ℕ) {x y : ℕ} {bs cs : List ℕ} → Holds w x bs → Holds w y cs → Holds w (bit_xor x y) (xor_bits bs cs)
 xored w {x} {y} hx hy =
-    record { fits = xor_lt w x y hx.fits hy.fits; same = xor-bits w x y ∙ ap₂ xorBits hx.same hy.same }
+    record { fits = xor_lt w x y hx.fits hy.fits; same = xor_bits_lem w x y ∙ ap₂ xor_bits hx.same hy.same }
 
 pub part-bits : (a b c x : ℕ) → take b (drop a (bits (a + (b + c)) x)) ≡ bits b (x / 2 ^ c)
 part-bits a b c x = ap (take b) (drop_bits a (b + c) x) ∙ take-bits b c x

@@ -3,13 +3,13 @@
 use Rattle.std.specs.Prelude.{◌≡◌, Bool, true, false, List, [], ◌∷◌, map, ℕ, suc, ◌-◌, ◌*◌, ◌/◌, ◌<◌, eqb, length, get_or, take, drop}
 use Rattle.octets.specs.Bytes.{Bytes}
 use Rattle.des.specs.Tables.{sboxes}
-use Rattle.des.specs.Des.{desEncipher, desDecipher}
+use Rattle.des.specs.Des.{des_encipher, des_decipher}
 
 -- ---- the rows of the S-boxes
 
 -- row i of the 32, four to a box
-unfoldable pub boxRow : ℕ → List ℕ
-boxRow i = take 16 (drop (16 * i) sboxes)
+unfoldable pub box_row : ℕ → List ℕ
+box_row i = take 16 (drop (16 * i) sboxes)
 
 -- how often v stands in a list
 unfoldable pub times : ℕ → List ℕ → ℕ
@@ -26,7 +26,7 @@ pub record Permutation16 (xs : List ℕ) : Type 0 where
   pub once : (v : ℕ) → v < 16 → times v xs ≡ 1
 
 pub record RowsArePermutations : Type 0 where
-  pub row : (i : ℕ) → i < 32 → Permutation16 (boxRow i)
+  pub row : (i : ℕ) → i < 32 → Permutation16 (box_row i)
 
 -- ---- inverses
 
@@ -36,8 +36,8 @@ pub record Block8 (b : List ℕ) : Type 0 where
   pub bytes : Bytes b
 
 pub record Inverses : Type 0 where
-  pub decipher-encipher : (key block : List ℕ) → Block8 block → desDecipher key (desEncipher key block) ≡ block
-  pub encipher-decipher : (key block : List ℕ) → Block8 block → desEncipher key (desDecipher key block) ≡ block
+  pub decipher_encipher : (key block : List ℕ) → Block8 block → des_decipher key (des_encipher key block) ≡ block
+  pub encipher_decipher : (key block : List ℕ) → Block8 block → des_encipher key (des_decipher key block) ≡ block
 
 -- ---- parity
 
@@ -47,8 +47,8 @@ pub record SameButParity (a b : List ℕ) : Type 0 where
   pub high : (i : ℕ) → get_or a i 0 / 2 ≡ get_or b i 0 / 2
 
 pub record ParityFree : Type 0 where
-  pub enciphers : (a b block : List ℕ) → SameButParity a b → desEncipher a block ≡ desEncipher b block
-  pub deciphers : (a b block : List ℕ) → SameButParity a b → desDecipher a block ≡ desDecipher b block
+  pub enciphers : (a b block : List ℕ) → SameButParity a b → des_encipher a block ≡ des_encipher b block
+  pub deciphers : (a b block : List ℕ) → SameButParity a b → des_decipher a block ≡ des_decipher b block
 
 -- ---- complements
 
@@ -58,5 +58,5 @@ complement bs = map (λ (b : ℕ). 255 - b) bs
 
 -- with every bit of the key and every bit of the block changed, every bit of the result is changed
 pub record Complements : Type 0 where
-  pub enciphers : (key block : List ℕ) → Block8 key → Block8 block → desEncipher (complement key) (complement block) ≡ complement (desEncipher key block)
-  pub deciphers : (key block : List ℕ) → Block8 key → Block8 block → desDecipher (complement key) (complement block) ≡ complement (desDecipher key block)
+  pub enciphers : (key block : List ℕ) → Block8 key → Block8 block → des_encipher (complement key) (complement block) ≡ complement (des_encipher key block)
+  pub deciphers : (key block : List ℕ) → Block8 key → Block8 block → des_decipher (complement key) (complement block) ≡ complement (des_decipher key block)

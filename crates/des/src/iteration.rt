@@ -2,7 +2,7 @@
 ghost use Rattle.std.specs.Prelude.{◌≡◌, ◌<◌};
 ghost use Rattle.des.specs.Bits.{bits};
 ghost use Rattle.des.specs.Tables.{e, p, sboxes};
-ghost use Rattle.des.specs.Des.{cipherFunction, swap, round as rounded, rounds, cipher};
+ghost use Rattle.des.specs.Des.{cipher_function, swap, round as rounded, rounds, cipher};
 ghost use Rattle.des.specs.Words.{Holds, turned, keys_of};
 
 use crate::permutation::{expand, initial, inverse_initial, permute_p};
@@ -12,7 +12,7 @@ use crate::tables::{box_table, e_table, p_table};
 // The cipher function f(R, K).
 fn cipher_function(r: u64, k: u64, expansion: &[u8], boxes: &[u8], permutation: &[u8]) -> u64
     requires { (expansion.now ≡ e) × ((boxes.now ≡ sboxes) × (permutation.now ≡ p)) }
-    ensures { Holds 32 result (cipherFunction (bits 32 r) (bits 48 k)) }
+    ensures { Holds 32 result (cipher_function (bits 32 r) (bits 48 k)) }
 {
     permute_p(substitute(expand(r, expansion) ^ k, boxes), permutation)
 }

@@ -1,7 +1,7 @@
 // The Data Encryption Standard, FIPS 46-3, and its inverse, as the standard prints them: every permutation and the boxes by their tables.
 ghost use Rattle.std.specs.Prelude.{◌≡◌, true, false};
-ghost use Rattle.des.specs.Bits.{bits, bitsOfBytes, bytesOfBits};
-ghost use Rattle.des.specs.Des.{cipher, desEncipher, desDecipher};
+ghost use Rattle.des.specs.Bits.{bits, bits_of_bytes, bytes_of_bits};
+ghost use Rattle.des.specs.Des.{cipher, des_encipher, des_decipher};
 ghost use Rattle.des.specs.Words.{Keys, keys_of};
 
 use crate::iteration::crypt;
@@ -18,14 +18,14 @@ pub mod tables;
 
 // The block enciphered with the key.
 pub fn encipher(key: [u8; 8], block: [u8; 8]) -> [u8; 8]
-    ensures { result ≡ desEncipher key block }
+    ensures { result ≡ des_encipher key block }
 {
     store(encipher_word(schedule(load(key)), load(block)))
 }
 
 // The block deciphered with the key.
 pub fn decipher(key: [u8; 8], block: [u8; 8]) -> [u8; 8]
-    ensures { result ≡ desDecipher key block }
+    ensures { result ≡ des_decipher key block }
 {
     store(decipher_word(schedule(load(key)), load(block)))
 }
@@ -63,13 +63,13 @@ pub fn decipher_word(keys: [u64; 16], x: u64) -> u64
 
 // Eight bytes as one word, the first the most significant, and back.
 pub fn load(b: [u8; 8]) -> u64
-    ensures { bits 64 result ≡ bitsOfBytes b }
+    ensures { bits 64 result ≡ bits_of_bytes b }
 {
     octets::get64_at(&b, 0)
 }
 
 pub fn store(x: u64) -> [u8; 8]
-    ensures { result ≡ bytesOfBits 8 (bits 64 x) }
+    ensures { result ≡ bytes_of_bits 8 (bits 64 x) }
 {
     let mut b = [0u8; 8];
     octets::put64(&mut b, 0, x);

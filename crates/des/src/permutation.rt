@@ -2,7 +2,7 @@
 ghost use Rattle.std.specs.Prelude.{◌≡◌, ◌+◌, ◌*◌, ◌≤◌, length};
 ghost use Rattle.octets.specs.Bytes.{part};
 ghost use Rattle.des.specs.Bits.{bits};
-ghost use Rattle.des.specs.Tables.{ip, ipInverse, e, p, pc1, pc2};
+ghost use Rattle.des.specs.Tables.{ip, ip_inverse, e, p, pc1, pc2};
 ghost use Rattle.des.specs.Des.{permute as permuted};
 ghost use Rattle.des.specs.Words.{Holds, Names, Rows};
 
@@ -46,7 +46,7 @@ pub fn initial(x: u64) -> u64
 }
 
 pub fn inverse_initial(x: u64) -> u64
-    ensures { Holds 64 result (permuted ipInverse (bits 64 x)) }
+    ensures { Holds 64 result (permuted ip_inverse (bits 64 x)) }
 {
     permute(x, 64, &IP_INVERSE, 8)
 }

@@ -10,55 +10,55 @@ use lib.Bits.{bit_or, bit_xor}
 use lib.Dec.{lit≤}
 use lib.ListN.{length, get_or, take, drop, length-append, take-append-drop}
 use lib.Seq.{take_at, drop_at}
-use Rattle.des.specs.Bits.{bits, xorBits}
-use Rattle.des.specs.Tables.{e, p, ip, ipInverse}
-use Rattle.des.specs.Des.{permute, selects, cipherFunction, swap, round, rounds, cipher}
+use Rattle.des.specs.Bits.{bits, xor_bits}
+use Rattle.des.specs.Tables.{e, p, ip, ip_inverse}
+use Rattle.des.specs.Des.{permute, selects, cipher_function, swap, round, rounds, cipher}
 use Rattle.des.specs.Words.{keys_of, Holds, turned}
 use Rattle.fast_des.specs.Networks.{middle}
 use Rattle.fast_des.specs.declared.Halves.{Halves}
 use Rattle.fast_des.specs.Inside.{Sides, Entered, Leaves, Adds, Rounds, Iterates, Passes, EnciphersInside, DeciphersInside}
-use Rattle.des.proofs.BitLaws.{take-bits, drop_bits, length-bits, xor-bits}
-use Rattle.des.proofs.BlockLaws.{length-permute, length-xor, length-f}
+use Rattle.des.proofs.BitLaws.{take-bits, drop_bits, length-bits, xor_bits_lem}
+use Rattle.des.proofs.BlockLaws.{length-permute, length_xor, length-f}
 use Rattle.des.proofs.KeyLaws.{enciphers, deciphers}
-use Rattle.des.proofs.CipherLaws.{half-left, half-right, compose, up_is, before-ip, after-ip}
-use Rattle.fast_des.proofs.LinearLaws.{permute-xor}
+use Rattle.des.proofs.CipherLaws.{half_left, half_right, compose, up_is, before-ip, after-ip}
+use Rattle.fast_des.proofs.LinearLaws.{permute_xor}
 use Rattle.des.proofs.WordLaws.{pushed}
 
 -- ---- one iteration
 
 -- the words of two halves of one length, added
-added : (a b : ℕ) (x y z : List ℕ) → length x ≡ length y → z ≡ xorBits x y → bits 48 a ≡ permute e x → bits 48 b ≡ permute e y → bits 48 (bit_xor a b) ≡ permute e z
-added a b x y z l d ha hb = xor-bits 48 a b ∙ ap₂ xorBits ha hb ∙ sym (permute-xor e x y l) ∙ ap (permute e) (sym d)
+added : (a b : ℕ) (x y z : List ℕ) → length x ≡ length y → z ≡ xor_bits x y → bits 48 a ≡ permute e x → bits 48 b ≡ permute e y → bits 48 (bit_xor a b) ≡ permute e z
+added a b x y z l d ha hb = xor_bits_lem 48 a b ∙ ap₂ xor_bits ha hb ∙ sym (permute_xor e x y l) ∙ ap (permute e) (sym d)
 
 pub round-sides : (h r : Halves) (k q : ℕ) → Holds 48 q (permute e (permute p (selects 8 (bits 48 (bit_xor h.right k))))) → r.left ≡ h.right → r.right ≡ bit_xor h.left q → Rounds h k r
-unfolding round cipherFunction
+unfolding round cipher_function
 round-sides h r k q o el er =
     record {
       by = λ lr s.
           let a = take 32 lr in
           let b = drop 32 lr in
-          let f = cipherFunction b (bits 48 k) in
-          let la : length a ≡ 32 = half-left lr s.long in
-          let lb : length b ≡ 32 = half-right lr s.long in
+          let f = cipher_function b (bits 48 k) in
+          let la : length a ≡ 32 = half_left lr s.long in
+          let lb : length b ≡ 32 = half_right lr s.long in
           let lf : length f ≡ 32 = length-f b (bits 48 k) in
-          let x : length (xorBits a f) ≡ 32 = length-xor a f (omega arith) ∙ la in
-          let eq : bits 48 q ≡ permute e f = o.same ∙ ap (λ (y : List ℕ). permute e (permute p (selects 8 y))) (xor-bits 48 h.right k ∙ ap (λ (y : List ℕ). xorBits y (bits 48 k)) s.rights) in
+          let x : length (xor_bits a f) ≡ 32 = length_xor a f (omega arith) ∙ la in
+          let eq : bits 48 q ≡ permute e f = o.same ∙ ap (λ (y : List ℕ). permute e (permute p (selects 8 y))) (xor_bits_lem 48 h.right k ∙ ap (λ (y : List ℕ). xor_bits y (bits 48 k)) s.rights) in
           record {
-            long = omega (arith, length-append b (xorBits a f));
-            lefts = ap (bits 48) el ∙ s.rights ∙ ap (permute e) (sym (take_at b (xorBits a f) 32 lb));
-            rights = ap (bits 48) er ∙ added h.left q a f (drop 32 (b ++ xorBits a f)) (la ∙ sym lf) (drop_at b (xorBits a f) 32 lb) s.lefts eq;
+            long = omega (arith, length-append b (xor_bits a f));
+            lefts = ap (bits 48) el ∙ s.rights ∙ ap (permute e) (sym (take_at b (xor_bits a f) 32 lb));
+            rights = ap (bits 48) er ∙ added h.left q a f (drop 32 (b ++ xor_bits a f)) (la ∙ sym lf) (drop_at b (xor_bits a f) 32 lb) s.lefts eq;
           };
     }
 
 -- ---- the sixteen
 
-pub iterate-none : (h : Halves) (keys : List ℕ) (back : Bool) → Iterates h keys back 0 h
+pub iterate_none : (h : Halves) (keys : List ℕ) (back : Bool) → Iterates h keys back 0 h
 unfolding rounds
-iterate-none h keys back = record { by = λ lr s. s }
+iterate_none h keys back = record { by = λ lr s. s }
 
-pub iterate-more : (h s r : Halves) (keys : List ℕ) (back : Bool) (n at : ℕ) → at ≡ turned back n → Iterates h keys back n s → Rounds s (get_or keys at 0) r → Iterates h keys back (n + 1) r
+pub iterate_more : (h s r : Halves) (keys : List ℕ) (back : Bool) (n at : ℕ) → at ≡ turned back n → Iterates h keys back n s → Rounds s (get_or keys at 0) r → Iterates h keys back (n + 1) r
 unfolding rounds
-iterate-more h s r keys back n at e i o =
+iterate_more h s r keys back n at e i o =
     record {
       by = λ lr b.
           subst (λ (m : ℕ). Sides r (rounds (keys_of keys back) m lr)) (sym (add-one n))
@@ -68,18 +68,18 @@ iterate-more h s r keys back n at e i o =
 -- ---- the halves exchanged; the inverse of IP, and IP of what comes next, cancel
 
 pub passed : (h s r : Halves) (keys : List ℕ) (back : Bool) → Iterates h keys back 16 s → (r.left ≡ s.right) × (r.right ≡ s.left) → Passes h keys back r
-unfolding cipher swap ipInverse
+unfolding cipher swap ip_inverse
 passed h s r keys back i x =
     record {
       by = λ bs b.
           let z = rounds (keys_of keys back) 16 (permute ip bs) in
           let o : Sides s z = i.by (permute ip bs) b.sides in
           let d = drop 32 z in
-          let ld : length d ≡ 32 = half-right z o.long in
-          let ls : length (d ++ take 32 z) ≡ 64 = omega (arith, length-append d (take 32 z), half-left z o.long) in
+          let ld : length d ≡ 32 = half_right z o.long in
+          let ls : length (d ++ take 32 z) ≡ 64 = omega (arith, length-append d (take 32 z), half_left z o.long) in
           let c : d ++ take 32 z ≡ permute ip (cipher (keys_of keys back) bs) = sym (before-ip (d ++ take 32 z) ls) in
           record {
-            long = length-permute ipInverse (d ++ take 32 z);
+            long = length-permute ip_inverse (d ++ take 32 z);
             sides =
                 subst (λ (m : List ℕ). Sides r m) c
                 (record {
@@ -111,40 +111,40 @@ unfolding middle e
 middle_of h l = compose middle e h refl ∙ up_is 32 h l
 
 pub leaves : (h : Halves) (a b x : ℕ) → Holds 32 a (permute middle (bits 48 h.left)) → Holds 32 b (permute middle (bits 48 h.right))
-    → Holds 64 x (permute ipInverse (bits 64 (bit_or (a * 2 ^ 32 % 2 ^ 64) b))) → Leaves h x
+    → Holds 64 x (permute ip_inverse (bits 64 (bit_or (a * 2 ^ 32 % 2 ^ 64) b))) → Leaves h x
 leaves h a b x ha hb hx =
     record {
       by = λ bs o.
           let z = permute ip bs in
           let s = o.sides in
           hx.same
-          ∙ ap (permute ipInverse)
+          ∙ ap (permute ip_inverse)
           ((pushed 32 32 (lit≤ tt) ha hb).same
-          ∙ ap₂ (λ (u v : List ℕ). u ++ v) (ap (permute middle) s.lefts ∙ middle_of (take 32 z) (half-left z s.long)) (ap (permute middle) s.rights ∙ middle_of (drop 32 z) (half-right z s.long))
+          ∙ ap₂ (λ (u v : List ℕ). u ++ v) (ap (permute middle) s.lefts ∙ middle_of (take 32 z) (half_left z s.long)) (ap (permute middle) s.rights ∙ middle_of (drop 32 z) (half_right z s.long))
           ∙ take-append-drop 32 z)
           ∙ after-ip bs o.long;
     }
 
 -- ---- two blocks added
 
-take-xor : (n : ℕ) (a b : List ℕ) → take n (xorBits a b) ≡ xorBits (take n a) (take n b)
-unfolding xorBits
-take-xor zero a b = refl
-take-xor (suc n) [] b = refl
-take-xor (suc n) (x ∷ a) [] = refl
-take-xor (suc n) (x ∷ a) (y ∷ b) = ap (λ (t : List ℕ). ((x + y) % 2) ∷ t) (take-xor n a b)
+take_xor : (n : ℕ) (a b : List ℕ) → take n (xor_bits a b) ≡ xor_bits (take n a) (take n b)
+unfolding xor_bits
+take_xor zero a b = refl
+take_xor (suc n) [] b = refl
+take_xor (suc n) (x ∷ a) [] = refl
+take_xor (suc n) (x ∷ a) (y ∷ b) = ap (λ (t : List ℕ). ((x + y) % 2) ∷ t) (take_xor n a b)
 
-xor-nil : (a : List ℕ) → xorBits a [] ≡ []
-unfolding xorBits
-xor-nil [] = refl
-xor-nil (x ∷ a) = refl
+xor_nil : (a : List ℕ) → xor_bits a [] ≡ []
+unfolding xor_bits
+xor_nil [] = refl
+xor_nil (x ∷ a) = refl
 
-drop-xor : (n : ℕ) (a b : List ℕ) → drop n (xorBits a b) ≡ xorBits (drop n a) (drop n b)
-unfolding xorBits
-drop-xor zero a b = refl
-drop-xor (suc n) [] b = refl
-drop-xor (suc n) (x ∷ a) [] = sym (xor-nil (drop n a))
-drop-xor (suc n) (x ∷ a) (y ∷ b) = drop-xor n a b
+drop_xor : (n : ℕ) (a b : List ℕ) → drop n (xor_bits a b) ≡ xor_bits (drop n a) (drop n b)
+unfolding xor_bits
+drop_xor zero a b = refl
+drop_xor (suc n) [] b = refl
+drop_xor (suc n) (x ∷ a) [] = sym (xor_nil (drop n a))
+drop_xor (suc n) (x ∷ a) (y ∷ b) = drop_xor n a b
 
 pub adds : (a b r : Halves) → r.left ≡ bit_xor a.left b.left → r.right ≡ bit_xor a.right b.right → Adds a b r
 unfolding ip
@@ -154,18 +154,18 @@ adds a b r el er =
           let u = permute ip xs in
           let v = permute ip ys in
           let same : length xs ≡ length ys = hx.long ∙ sym hy.long in
-          let z : permute ip (xorBits xs ys) ≡ xorBits u v = permute-xor ip xs ys same in
+          let z : permute ip (xor_bits xs ys) ≡ xor_bits u v = permute_xor ip xs ys same in
           let sx = hx.sides in
           let sy = hy.sides in
-          let ll : length (take 32 u) ≡ length (take 32 v) = half-left u sx.long ∙ sym (half-left v sy.long) in
-          let lr : length (drop 32 u) ≡ length (drop 32 v) = half-right u sx.long ∙ sym (half-right v sy.long) in
+          let ll : length (take 32 u) ≡ length (take 32 v) = half_left u sx.long ∙ sym (half_left v sy.long) in
+          let lr : length (drop 32 u) ≡ length (drop 32 v) = half_right u sx.long ∙ sym (half_right v sy.long) in
           record {
-            long = length-xor xs ys (omega arith) ∙ hx.long;
+            long = length_xor xs ys (omega arith) ∙ hx.long;
             sides =
                 record {
-                  long = length-permute ip (xorBits xs ys);
-                  lefts = ap (bits 48) el ∙ added a.left b.left (take 32 u) (take 32 v) _ ll (ap (take 32) z ∙ take-xor 32 u v) sx.lefts sy.lefts;
-                  rights = ap (bits 48) er ∙ added a.right b.right (drop 32 u) (drop 32 v) _ lr (ap (drop 32) z ∙ drop-xor 32 u v) sx.rights sy.rights;
+                  long = length-permute ip (xor_bits xs ys);
+                  lefts = ap (bits 48) el ∙ added a.left b.left (take 32 u) (take 32 v) _ ll (ap (take 32) z ∙ take_xor 32 u v) sx.lefts sy.lefts;
+                  rights = ap (bits 48) er ∙ added a.right b.right (drop 32 u) (drop 32 v) _ lr (ap (drop 32) z ∙ drop_xor 32 u v) sx.rights sy.rights;
                 };
           };
     }

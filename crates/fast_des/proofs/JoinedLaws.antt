@@ -12,15 +12,15 @@ use lib.Pow.{pow_pos}
 use borrow.Author.Tests.{ltb-true, ltb-false}
 use lib.ListN.{length, get_or, take, drop, length-append, length-drop, length-map}
 use lib.Seq.{take_all, drop_at, take-append-le, drop-append-le}
-use Rattle.des.specs.Bits.{bits, value, xorBits}
+use Rattle.des.specs.Bits.{bits, value, xor_bits}
 use Rattle.des.specs.Tables.{e, p, pc2}
 use Rattle.des.specs.Des.{permute, select, selects}
 use Rattle.des.specs.Words.{Holds, up_from}
-use Rattle.fast_des.specs.Joined.{zeros, placed, moved, joinedEntry, joined, pc2Entry, pc2Groups}
+use Rattle.fast_des.specs.Joined.{zeros, placed, moved, joined_entry, joined, pc2_entry, pc2_groups}
 use Rattle.des.proofs.BitLaws.{length-bits}
 use Rattle.des.proofs.BlockLaws.{Small, small-nil, small-cons, small-append, small-permute, small-bits, length-permute, value-high, bits-value}
 use Rattle.des.proofs.MapLaws.{get_d_map}
-use Rattle.fast_des.proofs.LinearLaws.{permute-xor}
+use Rattle.fast_des.proofs.LinearLaws.{permute_xor}
 use Rattle.des.proofs.WordLaws.{recast, xored, group-bits}
 
 -- ---- a list with zeros for all but the places from m to n
@@ -41,8 +41,8 @@ length-keep (suc m) zero (x ∷ s) = ap suc (length-keep m zero s)
 length-keep (suc m) (suc n) (x ∷ s) = ap suc (length-keep m n s)
 
 -- two parts side by side
-pub merge : (m n o : ℕ) (s : List ℕ) → m ≤ n → n ≤ o → Small s → xorBits (keep m n s) (keep n o s) ≡ keep m o s
-unfolding keep xorBits
+pub merge : (m n o : ℕ) (s : List ℕ) → m ≤ n → n ≤ o → Small s → xor_bits (keep m n s) (keep n o s) ≡ keep m o s
+unfolding keep xor_bits
 merge m n o [] h l b = refl
 merge zero zero zero (x ∷ s) h l b = ap (λ (t : List ℕ). 0 ∷ t) (merge zero zero zero s h l (λ i. b (suc i)))
 merge zero zero (suc o) (x ∷ s) h l b =
@@ -101,14 +101,14 @@ keep-placed w k s h l =
     within (4 * k) 4 s (omega arith) ∙ ap (λ (n : ℕ). zeros (4 * k) ++ (take 4 (drop (4 * k) s) ++ zeros (n - (4 * k + 4)))) h
 
 -- what is linear, of two parts side by side
-pub merged : (f : List ℕ → List ℕ) → ((a b : List ℕ) → length a ≡ length b → f (xorBits a b) ≡ xorBits (f a) (f b)) → (v m n o : ℕ) {a b : ℕ} (s : List ℕ) → m ≤ n → n ≤ o → Small s
+pub merged : (f : List ℕ → List ℕ) → ((a b : List ℕ) → length a ≡ length b → f (xor_bits a b) ≡ xor_bits (f a) (f b)) → (v m n o : ℕ) {a b : ℕ} (s : List ℕ) → m ≤ n → n ≤ o → Small s
     → Holds v a (f (keep m n s)) → Holds v b (f (keep n o s)) → Holds v (bit_xor a b) (f (keep m o s))
 merged f linear v m n o s h l small ha hb =
     recast (xored v ha hb) (sym (linear (keep m n s) (keep n o s) (length-keep m n s ∙ sym (length-keep n o s))) ∙ ap f (merge m n o s h l small))
 
 -- P, then E
-pub expanded-xor : (a b : List ℕ) → length a ≡ length b → permute e (permute p (xorBits a b)) ≡ xorBits (permute e (permute p a)) (permute e (permute p b))
-expanded-xor a b h = ap (permute e) (permute-xor p a b h) ∙ permute-xor e (permute p a) (permute p b) (length-permute p a ∙ sym (length-permute p b))
+pub expanded_xor : (a b : List ℕ) → length a ≡ length b → permute e (permute p (xor_bits a b)) ≡ xor_bits (permute e (permute p a)) (permute e (permute p b))
+expanded_xor a b h = ap (permute e) (permute_xor p a b h) ∙ permute_xor e (permute p a) (permute p b) (length-permute p a ∙ sym (length-permute p b))
 
 length-select : (k : ℕ) (g : List ℕ) → length (select k g) ≡ 4
 unfolding select
@@ -130,9 +130,9 @@ unfolding selects
 small-selects zero y = small-nil
 small-selects (suc n) y = small-append (selects n y) (select n (take 6 (drop (6 * n) y))) (small-selects n y) (small-select n (take 6 (drop (6 * n) y)))
 
-selects-more : (n : ℕ) (y : List ℕ) → selects (suc n) y ≡ selects n y ++ select n (take 6 (drop (6 * n) y))
+selects_more : (n : ℕ) (y : List ℕ) → selects (suc n) y ≡ selects n y ++ select n (take 6 (drop (6 * n) y))
 unfolding selects
-selects-more n y = refl
+selects_more n y = refl
 
 -- the four bits of one box among those of all
 pub selects-part : (n k : ℕ) (y : List ℕ) → k < n → take 4 (drop (4 * k) (selects n y)) ≡ select k (take 6 (drop (6 * k) y))
@@ -151,38 +151,38 @@ selects-part (suc n) k y h = go (ltb k n) refl (λ l. selects-part n k y l)
         let l : k < n = ltb-true k n q in
         let d : 4 * k ≤ length s = omega (arith, length-selects n y) in
         let m : 4 ≤ length (drop (4 * k) s) = omega (arith, length-selects n y, length-drop (4 * k) s) in
-        ap (λ (r : List ℕ). take 4 (drop (4 * k) r)) (selects-more n y) ∙ ap (take 4) (drop-append-le (4 * k) s t d) ∙ take-append-le 4 (drop (4 * k) s) t m ∙ before l
+        ap (λ (r : List ℕ). take 4 (drop (4 * k) r)) (selects_more n y) ∙ ap (take 4) (drop-append-le (4 * k) s t d) ∙ take-append-le 4 (drop (4 * k) s) t m ∙ before l
     go false q before =
         let l : k ≡ n = omega (arith, ltb-false k n q) in
         let d : length s ≡ 4 * k = omega (arith, length-selects n y) in
-        ap (λ (r : List ℕ). take 4 (drop (4 * k) r)) (selects-more n y) ∙ ap (take 4) (drop_at s t (4 * k) d)
+        ap (λ (r : List ℕ). take 4 (drop (4 * k) r)) (selects_more n y) ∙ ap (take 4) (drop_at s t (4 * k) d)
         ∙ take_all 4 t (omega (arith, length-select n (take 6 (drop (6 * n) y)))) ∙ ap (λ (i : ℕ). select i (take 6 (drop (6 * i) y))) (sym l)
 
 -- ---- entries of the tables
 
-upFrom-at : (a n i : ℕ) → i < n → get_or (up_from a n) i 0 ≡ a + i
-upFrom-at a zero i h = absurd (not-suc-le-zero h)
-upFrom-at a (suc n) zero h = omega arith
-upFrom-at a (suc n) (suc i) h =
+up_from-at : (a n i : ℕ) → i < n → get_or (up_from a n) i 0 ≡ a + i
+up_from-at a zero i h = absurd (not-suc-le-zero h)
+up_from-at a (suc n) zero h = omega arith
+up_from-at a (suc n) (suc i) h =
     let z : suc a + i ≡ a + suc i = omega arith in
-    upFrom-at (suc a) n i (le_of_suc-le-suc h) ∙ z
+    up_from-at (suc a) n i (le_of_suc-le-suc h) ∙ z
 
-length-upFrom : (a n : ℕ) → length (up_from a n) ≡ n
-length-upFrom a zero = refl
-length-upFrom a (suc n) = ap suc (length-upFrom (suc a) n)
+length-up_from : (a n : ℕ) → length (up_from a n) ≡ n
+length-up_from a zero = refl
+length-up_from a (suc n) = ap suc (length-up_from (suc a) n)
 
 ruled : (f : ℕ → ℕ) (n i : ℕ) → i < n → get_or (map f (up_from 0 n)) i 0 ≡ f i
 ruled f n i h =
     let z : 0 + i ≡ i = omega arith in
-    get_d_map f (up_from 0 n) i (subst⁻¹ (λ (m : ℕ). i < m) (length-upFrom 0 n) h) ∙ ap f (upFrom-at 0 n i h ∙ z)
+    get_d_map f (up_from 0 n) i (subst⁻¹ (λ (m : ℕ). i < m) (length-up_from 0 n) h) ∙ ap f (up_from-at 0 n i h ∙ z)
 
 pub length-joined : length joined ≡ 512
 unfolding joined
-length-joined = length-map (up_from 0 512) joinedEntry ∙ length-upFrom 0 512
+length-joined = length-map (up_from 0 512) joined_entry ∙ length-up_from 0 512
 
-pub length-pc2Groups : length pc2Groups ≡ 224
-unfolding pc2Groups
-length-pc2Groups = length-map (up_from 0 224) pc2Entry ∙ length-upFrom 0 224
+pub length-pc2_groups : length pc2_groups ≡ 224
+unfolding pc2_groups
+length-pc2_groups = length-map (up_from 0 224) pc2_entry ∙ length-up_from 0 224
 
 -- a list of bits, and the number that it represents
 valued : (w : ℕ) (bs : List ℕ) → length bs ≡ w → Small bs → Holds w (value bs) bs
@@ -204,35 +204,35 @@ small-placed w k s h =
     small-append (zeros (4 * k)) (s ++ zeros (w - (4 * k + 4))) (small-zeros (4 * k)) (small-append s (zeros (w - (4 * k + 4))) h (small-zeros (w - (4 * k + 4))))
 
 pub joined_at : (k g : ℕ) → k < 8 → g < 64 → Holds 48 (get_or joined (64 * k + g) 0) (permute e (moved k g))
-unfolding joined joinedEntry moved e
+unfolding joined joined_entry moved e
 joined_at k g hk hg =
     let d : (64 * k + g) / 64 ≡ k = omega arith in
     let m : (64 * k + g) % 64 ≡ g = omega arith in
     let bs = permute e (moved k g) in
-    subst⁻¹ (λ (n : ℕ). Holds 48 n bs) (ruled joinedEntry 512 (64 * k + g) (omega arith) ∙ ap₂ (λ (a b : ℕ). value (permute e (moved a b))) d m)
+    subst⁻¹ (λ (n : ℕ). Holds 48 n bs) (ruled joined_entry 512 (64 * k + g) (omega arith) ∙ ap₂ (λ (a b : ℕ). value (permute e (moved a b))) d m)
     (valued 48 bs (length-permute e (moved k g)) (small-permute e (moved k g) (small-permute p _ (small-placed 32 k (select k (bits 6 g)) (small-select k (bits 6 g))))))
 
-pub pc2-at : (i v : ℕ) → i < 14 → v < 16 → Holds 48 (get_or pc2Groups (16 * i + v) 0) (permute pc2 (placed 56 i (bits 4 v)))
-unfolding pc2Groups pc2Entry pc2
+pub pc2-at : (i v : ℕ) → i < 14 → v < 16 → Holds 48 (get_or pc2_groups (16 * i + v) 0) (permute pc2 (placed 56 i (bits 4 v)))
+unfolding pc2_groups pc2_entry pc2
 pc2-at i v hi hv =
     let d : (16 * i + v) / 16 ≡ i = omega arith in
     let m : (16 * i + v) % 16 ≡ v = omega arith in
     let bs = permute pc2 (placed 56 i (bits 4 v)) in
-    subst⁻¹ (λ (n : ℕ). Holds 48 n bs) (ruled pc2Entry 224 (16 * i + v) (omega arith) ∙ ap₂ (λ (a b : ℕ). value (permute pc2 (placed 56 a (bits 4 b)))) d m)
+    subst⁻¹ (λ (n : ℕ). Holds 48 n bs) (ruled pc2_entry 224 (16 * i + v) (omega arith) ∙ ap₂ (λ (a b : ℕ). value (permute pc2 (placed 56 a (bits 4 b)))) d m)
     (valued 48 bs (length-permute pc2 (placed 56 i (bits 4 v))) (small-permute pc2 _ (small-placed 56 i (bits 4 v) (small-bits 4 v))))
 
 -- ---- the loop over the boxes, from the last
 
-pub boxes-start : (y : List ℕ) → Holds 48 0 (permute e (permute p (keep 32 32 (selects 8 y))))
+pub boxes_start : (y : List ℕ) → Holds 48 0 (permute e (permute p (keep 32 32 (selects 8 y))))
 unfolding zeros permute p e bits
-boxes-start y =
+boxes_start y =
     let z : keep 32 32 (selects 8 y) ≡ zeros 32 = keep-none 32 (selects 8 y) ∙ ap zeros (length-selects 8 y) in
     subst⁻¹ (λ (l : List ℕ). Holds 48 0 (permute e (permute p l))) z (record { fits = lit< tt; same = refl })
 
-pub boxes-step : (k x : ℕ) {r q : ℕ} → 0 < k → k ≤ 8 → Holds 48 r (permute e (permute p (keep (4 * k) 32 (selects 8 (bits 48 x)))))
+pub boxes_step : (k x : ℕ) {r q : ℕ} → 0 < k → k ≤ 8 → Holds 48 r (permute e (permute p (keep (4 * k) 32 (selects 8 (bits 48 x)))))
     → Holds 48 q (permute e (moved (k - 1) (bit_and (x / 2 ^ (42 - 6 * (k - 1))) 63))) → Holds 48 (bit_xor q r) (permute e (permute p (keep (4 * (k - 1)) 32 (selects 8 (bits 48 x)))))
 unfolding moved
-boxes-step k x {r} {q} h l hr hq =
+boxes_step k x {r} {q} h l hr hq =
     let j = k - 1 in
     let s = selects 8 (bits 48 x) in
     let g = bit_and (x / 2 ^ (42 - 6 * j)) 63 in
@@ -242,7 +242,7 @@ boxes-step k x {r} {q} h l hr hq =
     let one : placed 32 j (select j (bits 6 g)) ≡ keep (4 * j) (4 * k) s =
     ap (λ (b : List ℕ). placed 32 j (select j b)) box ∙ ap (placed 32 j) (sym (selects-part 8 j (bits 48 x) (omega arith)))
     ∙ sym (keep-placed 32 j s (length-selects 8 (bits 48 x)) (omega arith)) ∙ ap (λ (m : ℕ). keep (4 * j) m s) n in
-    merged (λ a. permute e (permute p a)) expanded-xor 48 (4 * j) (4 * k) 32 s (omega arith) (omega arith) (small-selects 8 (bits 48 x)) (recast hq (ap (λ (a : List ℕ). permute e (permute p a)) one)) hr
+    merged (λ a. permute e (permute p a)) expanded_xor 48 (4 * j) (4 * k) 32 s (omega arith) (omega arith) (small-selects 8 (bits 48 x)) (recast hq (ap (λ (a : List ℕ). permute e (permute p a)) one)) hr
 
-pub boxes-end : (y : List ℕ) {r : ℕ} → Holds 48 r (permute e (permute p (keep 0 32 (selects 8 y)))) → Holds 48 r (permute e (permute p (selects 8 y)))
-boxes-end y h = recast h (ap (λ (a : List ℕ). permute e (permute p a)) (keep_all 32 (selects 8 y) (length-selects 8 y)))
+pub boxes_end : (y : List ℕ) {r : ℕ} → Holds 48 r (permute e (permute p (keep 0 32 (selects 8 y)))) → Holds 48 r (permute e (permute p (selects 8 y)))
+boxes_end y h = recast h (ap (λ (a : List ℕ). permute e (permute p a)) (keep_all 32 (selects 8 y) (length-selects 8 y)))

@@ -1,9 +1,9 @@
 -- A block inside DES, between IP and its inverse: two words, each the expansion E of a half. The inverse of IP of one block and the IP of the next cancel.
 -- Assumes nothing.
 use Rattle.std.specs.Prelude.{◌≡◌, Bool, List, ℕ, length, take, drop}
-use Rattle.des.specs.Bits.{bits, xorBits}
+use Rattle.des.specs.Bits.{bits, xor_bits}
 use Rattle.des.specs.Tables.{e, ip}
-use Rattle.des.specs.Des.{permute, round, rounds, cipher, encipherBits, decipherBits}
+use Rattle.des.specs.Des.{permute, round, rounds, cipher, encipher_bits, decipher_bits}
 use Rattle.des.specs.Words.{Keys, keys_of}
 use Rattle.fast_des.specs.declared.Halves.{Halves}
 
@@ -26,7 +26,7 @@ pub record Leaves (h : Halves) (x : ℕ) : Type 0 where
 
 -- r holds the sum of two blocks
 pub record Adds (a b r : Halves) : Type 0 where
-  pub by : (xs ys : List ℕ) → Entered a xs → Entered b ys → Entered r (xorBits xs ys)
+  pub by : (xs ys : List ℕ) → Entered a xs → Entered b ys → Entered r (xor_bits xs ys)
 
 -- r holds the halves after the iteration with the key k
 pub record Rounds (h : Halves) (k : ℕ) (r : Halves) : Type 0 where
@@ -42,7 +42,7 @@ pub record Passes (h : Halves) (keys : List ℕ) (back : Bool) (r : Halves) : Ty
 
 -- r holds the block enciphered, or deciphered, with any key whose sixteen keys are ks
 pub record EnciphersInside (h : Halves) (ks : List ℕ) (r : Halves) : Type 0 where
-  pub by : (key bs : List ℕ) → Keys key ks → Entered h bs → Entered r (encipherBits key bs)
+  pub by : (key bs : List ℕ) → Keys key ks → Entered h bs → Entered r (encipher_bits key bs)
 
 pub record DeciphersInside (h : Halves) (ks : List ℕ) (r : Halves) : Type 0 where
-  pub by : (key bs : List ℕ) → Keys key ks → Entered h bs → Entered r (decipherBits key bs)
+  pub by : (key bs : List ℕ) → Keys key ks → Entered h bs → Entered r (decipher_bits key bs)

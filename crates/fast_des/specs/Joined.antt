@@ -19,15 +19,15 @@ unfoldable pub moved : ℕ → ℕ → List ℕ
 moved k g = permute p (placed 32 k (select k (bits 6 g)))
 
 -- the boxes joined with P: entry 64 k + g is `moved k g`, with E behind it
-unfoldable pub joinedEntry : ℕ → ℕ
-joinedEntry i = value (permute e (moved (i / 64) (i % 64)))
+unfoldable pub joined_entry : ℕ → ℕ
+joined_entry i = value (permute e (moved (i / 64) (i % 64)))
 
 unfoldable pub joined : List ℕ
-joined = map joinedEntry (up_from 0 512)
+joined = map joined_entry (up_from 0 512)
 
 -- permuted choice 2 by groups: entry 16 i + v is of 56 bits whose group i is v
-unfoldable pub pc2Entry : ℕ → ℕ
-pc2Entry i = value (permute pc2 (placed 56 (i / 16) (bits 4 (i % 16))))
+unfoldable pub pc2_entry : ℕ → ℕ
+pc2_entry i = value (permute pc2 (placed 56 (i / 16) (bits 4 (i % 16))))
 
-unfoldable pub pc2Groups : List ℕ
-pc2Groups = map pc2Entry (up_from 0 224)
+unfoldable pub pc2_groups : List ℕ
+pc2_groups = map pc2_entry (up_from 0 224)

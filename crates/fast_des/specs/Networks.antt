@@ -8,19 +8,19 @@ abbrev pub apart : ℕ → ℕ → ℕ → ℕ
 apart d m x = bit_and (bit_xor (x / 2 ^ d) x) m
 
 -- the bits that m names exchanged with those d places above them
-unfoldable pub exchangeBits : ℕ → ℕ → ℕ → ℕ
-exchangeBits d m x = bit_xor (bit_xor x (apart d m x)) (apart d m x * 2 ^ d % 2 ^ 64)
+unfoldable pub exchange_bits : ℕ → ℕ → ℕ → ℕ
+exchange_bits d m x = bit_xor (bit_xor x (apart d m x)) (apart d m x * 2 ^ d % 2 ^ 64)
 
 -- the bits that `high` names n places up, or down, and those that `low` names where they are
-unfoldable pub spreadParts : ℕ → ℕ → ℕ → ℕ → ℕ
-spreadParts high n low x = bit_xor (bit_and x high * 2 ^ n % 2 ^ 64) (bit_and x low)
+unfoldable pub spread_parts : ℕ → ℕ → ℕ → ℕ → ℕ
+spread_parts high n low x = bit_xor (bit_and x high * 2 ^ n % 2 ^ 64) (bit_and x low)
 
-unfoldable pub gatherParts : ℕ → ℕ → ℕ → ℕ → ℕ
-gatherParts high n low x = bit_xor (bit_and x high / 2 ^ n) (bit_and x low)
+unfoldable pub gather_parts : ℕ → ℕ → ℕ → ℕ → ℕ
+gather_parts high n low x = bit_xor (bit_and x high / 2 ^ n) (bit_and x low)
 
 -- the bits that `high` names n places up, and those that `low` names round to the other end of 28 bits
-unfoldable pub shiftParts : ℕ → ℕ → ℕ → ℕ → ℕ
-shiftParts n high low cd = bit_xor (bit_and (cd * 2 ^ n % 2 ^ 64) high) (bit_and (cd / 2 ^ (28 - n)) low)
+unfoldable pub shift_parts : ℕ → ℕ → ℕ → ℕ → ℕ
+shift_parts n high low cd = bit_xor (bit_and (cd * 2 ^ n % 2 ^ 64) high) (bit_and (cd / 2 ^ (28 - n)) low)
 
 -- the middle four of each group of six: what E makes of 32 bits, read back
 unfoldable pub middle : List ℕ

@@ -2,7 +2,7 @@
 ghost use Rattle.std.specs.Prelude.{◌≡◌};
 ghost use Rattle.des.specs.Bits.{bits};
 ghost use Rattle.des.specs.Words.{Keys};
-ghost use Rattle.fast_des.specs.Joined.{joined, pc2Groups};
+ghost use Rattle.fast_des.specs.Joined.{joined, pc2_groups};
 ghost use Rattle.fast_des.specs.Inside.{Entered, Leaves, Adds, EnciphersInside, DeciphersInside};
 
 use crate::iteration::{pass, pass_three};
@@ -39,14 +39,14 @@ pub fn joined_table() -> [u64; 512]
 }
 
 pub fn groups_table() -> [u64; 224]
-    ensures { result ≡ pc2Groups }
+    ensures { result ≡ pc2_groups }
 {
     PC2_GROUPS
 }
 
 // The keys of the sixteen iterations, by a lent table. They lie 1, 2, 4, 6, 8, 10, 12, 14, 15, 17, 19, 21, 23, 25, 27 and 28 shifts behind permuted choice 1. From each of the words 0, 2, 15 and 17 shifts behind it, the keys 0, 4, 8 and 12 shifts on are taken together; 28 shifts bring C and D round, so 29 are one.
 pub fn schedule_by(key: u64, groups: &[u64]) -> [u64; 16]
-    requires { groups.now ≡ pc2Groups }
+    requires { groups.now ≡ pc2_groups }
     ensures { Keys (bits 64 key) result }
 {
     let cd = choice1(key);

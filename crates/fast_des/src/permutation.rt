@@ -1,16 +1,16 @@
 // The permutations, by exchanges and shifts of a word's parts.
 ghost use Rattle.std.specs.Prelude.{◌≡◌, ◌+◌, ◌*◌, ◌<◌};
-ghost use Rattle.des.specs.Bits.{bits, xorBits};
-ghost use Rattle.des.specs.Tables.{ip, ipInverse, e, pc1, pc2};
-ghost use Rattle.des.specs.Des.{permute as permuted, shiftBoth};
+ghost use Rattle.des.specs.Bits.{bits, xor_bits};
+ghost use Rattle.des.specs.Tables.{ip, ip_inverse, e, pc1, pc2};
+ghost use Rattle.des.specs.Des.{permute as permuted, shift_both};
 ghost use Rattle.des.specs.Words.{Holds};
-ghost use Rattle.fast_des.specs.Networks.{exchangeBits, spreadParts, gatherParts, middle};
-ghost use Rattle.fast_des.specs.Joined.{placed, pc2Groups};
+ghost use Rattle.fast_des.specs.Networks.{exchange_bits, spread_parts, gather_parts, middle};
+ghost use Rattle.fast_des.specs.Joined.{placed, pc2_groups};
 
 // The bits that m names exchanged with those d places above them.
 fn exchange_bits(x: u64, d: u64, m: u64) -> u64
     requires { d < 64 }
-    ensures { result ≡ exchangeBits d m x }
+    ensures { result ≡ exchange_bits d m x }
 {
     let t = ((x >> d) ^ x) & m;
     x ^ t ^ (t << d)
@@ -27,7 +27,7 @@ pub fn initial(x: u64) -> u64
 }
 
 pub fn inverse_initial(x: u64) -> u64
-    ensures { Holds 64 result (permuted ipInverse (bits 64 x)) }
+    ensures { Holds 64 result (permuted ip_inverse (bits 64 x)) }
 {
     let a = exchange_bits(x, 33, 0x5555_5555);
     let b = exchange_bits(a, 24, 0xff00_ff00);
@@ -39,7 +39,7 @@ pub fn inverse_initial(x: u64) -> u64
 // The bits that `high` names n places up, those that `low` names where they are.
 fn spread(x: u64, high: u64, n: u64, low: u64) -> u64
     requires { n < 64 }
-    ensures { result ≡ spreadParts high n low x }
+    ensures { result ≡ spread_parts high n low x }
 {
     ((x & high) << n) ^ (x & low)
 }
@@ -47,7 +47,7 @@ fn spread(x: u64, high: u64, n: u64, low: u64) -> u64
 // The bits that `high` names n places down, those that `low` names where they are.
 fn gather(x: u64, high: u64, n: u64, low: u64) -> u64
     requires { n < 64 }
-    ensures { result ≡ gatherParts high n low x }
+    ensures { result ≡ gather_parts high n low x }
 {
     ((x & high) >> n) ^ (x & low)
 }
@@ -100,8 +100,8 @@ pub struct FourKeys {
 
 // Permuted choice 2 of group i of C and of D, c and d, when both are shifted by k groups: two entries of its table, since such a shift only moves the groups.
 fn choose(i: usize, k: usize, c: u64, d: u64, groups: &[u64]) -> u64
-    requires { ((i < 7) × (k < 4)) × (((c < 16) × (d < 16)) × (groups.now ≡ pc2Groups)) }
-    ensures { Holds 48 result (permuted pc2 (shiftBoth (4 * k) (xorBits (placed 56 i (bits 4 c)) (placed 56 (7 + i) (bits 4 d))))) }
+    requires { ((i < 7) × (k < 4)) × (((c < 16) × (d < 16)) × (groups.now ≡ pc2_groups)) }
+    ensures { Holds 48 result (permuted pc2 (shift_both (4 * k) (xor_bits (placed 56 i (bits 4 c)) (placed 56 (7 + i) (bits 4 d))))) }
 {
     let group = (i + 7 - k) % 7;
     let left = 16 * group + (c as usize);
@@ -111,8 +111,8 @@ fn choose(i: usize, k: usize, c: u64, d: u64, groups: &[u64]) -> u64
 
 // Each group of four bits is taken out once for four keys.
 pub fn choices(x: u64, groups: &[u64]) -> FourKeys
-    requires { groups.now ≡ pc2Groups }
-    ensures { ((Holds 48 result.none (permuted pc2 (shiftBoth 0 (bits 56 x)))) × (Holds 48 result.four (permuted pc2 (shiftBoth 4 (bits 56 x))))) × ((Holds 48 result.eight (permuted pc2 (shiftBoth 8 (bits 56 x)))) × (Holds 48 result.twelve (permuted pc2 (shiftBoth 12 (bits 56 x))))) }
+    requires { groups.now ≡ pc2_groups }
+    ensures { ((Holds 48 result.none (permuted pc2 (shift_both 0 (bits 56 x)))) × (Holds 48 result.four (permuted pc2 (shift_both 4 (bits 56 x))))) × ((Holds 48 result.eight (permuted pc2 (shift_both 8 (bits 56 x)))) × (Holds 48 result.twelve (permuted pc2 (shift_both 12 (bits 56 x))))) }
 {
     let mut none: u64 = 0;
     let mut four: u64 = 0;

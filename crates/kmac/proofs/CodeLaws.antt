@@ -19,41 +19,41 @@ use Rattle.refusal.proofs.Laws.{asks-gives, gives-number}
 use Rattle.refusal.proofs.CodeLaws.{negative}
 use Rattle.store.specs.declared.Edition.{Edition}
 use Rattle.store.specs.declared.Edition.TheVariants.{Known, Unknown}
-use Rattle.store.specs.Layout.{editionOf}
-use Rattle.store.specs.Search.{Finding, found, find, findIn}
-use Rattle.store.proofs.SearchLaws.{editionOf-says, not_found}
+use Rattle.store.specs.Layout.{edition_of}
+use Rattle.store.specs.Search.{Finding, found, find, find_in}
+use Rattle.store.proofs.SearchLaws.{edition_of-says, not_found}
 use Rattle.store.proofs.Theorems.{whole-key}
-use Rattle.convert.specs.Convert.{convertedAs}
+use Rattle.convert.specs.Convert.{converted_as}
 use Rattle.convert.specs.declared.Converted.{Converted}
 use Rattle.convert.specs.declared.Converted.TheVariants.{Done, Refused}
 use Rattle.authentication.specs.Unit.{built, checked}
 use Rattle.authentication.proofs.AnswerLaws.{passed}
-use Rattle.kmac.specs.Code.{endAfter}
+use Rattle.kmac.specs.Code.{end_after}
 use Rattle.kmac.specs.Claims.{RefusedFindLeavesEnd}
 
 -- what is told of a conversion
-conversion-fits : (r : Converted) → SFits w32 (code (convertedAs r))
+conversion-fits : (r : Converted) → SFits w32 (code (converted_as r))
 conversion-fits Done = record { sfits = lit< tt }
 conversion-fits (Refused h) = subst (λ (z : ℤ). SFits w32 z) (negative h).is (negative h).fits
 
-pub told-converted : {a : Answer} (r : Converted) (z : ℤ) → z ≡ code (convertedAs r) → convertedAs r ≡ a → to_z w32 (of_z w32 z) ≡ code a
+pub told-converted : {a : Answer} (r : Converted) (z : ℤ) → z ≡ code (converted_as r) → converted_as r ≡ a → to_z w32 (of_z w32 z) ≡ code a
 told-converted r z q e = to_z-of_z w32 z (subst (λ (x : ℤ). SFits w32 x) (sym q) (conversion-fits r)) ∙ q ∙ ap code e
 
 -- ---- the answers are small numbers
 
 pub place-small : (s : List ℕ) (peer t p until : ℕ) → find s peer t ≡ found p until → p < 2 ^ 31
-unfolding find findIn
-place-small s peer t p until e = known (editionOf (length s)) refl e
+unfolding find find_in
+place-small s peer t p until e = known (edition_of (length s)) refl e
   where
-    known : (E : Edition) → editionOf (length s) ≡ E → findIn E s peer t ≡ found p until → p < 2 ^ 31
+    known : (E : Edition) → edition_of (length s) ≡ E → find_in E s peer t ≡ found p until → p < 2 ^ 31
     known Unknown h q = not_found 1 p until q
     known (Known L) h q =
-        let b = editionOf-says (length s) L h in
+        let b = edition_of-says (length s) L h in
         let at = whole-key.inside s peer t p until e in
-        omega (arith, b.0.total-fits, b.1)
+        omega (arith, b.0.total_fits, b.1)
 
-pub data-small : (unit key destination : List ℕ) (direction : Bool) (n : ℕ) → checked unit key destination direction ≡ gives n → n < 2 ^ 31
-data-small unit key destination direction n e =
+pub data_small : (unit key destination : List ℕ) (direction : Bool) (n : ℕ) → checked unit key destination direction ≡ gives n → n < 2 ^ 31
+data_small unit key destination direction n e =
     let p = passed unit key destination direction n e in
     omega (arith, p.number, (between-true 9 1032 (length unit) p.long).1)
 
@@ -68,4 +68,4 @@ unit-small key user out n e =
 -- ---- the end that a search writes
 
 pub refused-find-leaves-end : RefusedFindLeavesEnd
-refused-find-leaves-end = record { as_it_was = λ s peer t n before e. ap (λ (f : Finding). endAfter f before) e }
+refused-find-leaves-end = record { as_it_was = λ s peer t n before e. ap (λ (f : Finding). end_after f before) e }

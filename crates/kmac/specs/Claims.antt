@@ -2,8 +2,8 @@
 -- Assumes nothing.
 use Rattle.std.specs.Prelude.{◌≡◌, List, ℕ}
 use Rattle.store.specs.Search.{unfound, find}
-use Rattle.kmac.specs.Code.{endAfter}
+use Rattle.kmac.specs.Code.{end_after}
 
 -- demand 1: a refused search leaves the end as it was
 pub record RefusedFindLeavesEnd : Type 0 where
-  pub as_it_was : (s : List ℕ) (peer t n before : ℕ) → find s peer t ≡ unfound n → endAfter (find s peer t) before ≡ before
+  pub as_it_was : (s : List ℕ) (peer t n before : ℕ) → find s peer t ≡ unfound n → end_after (find s peer t) before ≡ before

@@ -8,6 +8,6 @@ abbrev pub version : ℕ
 version = 5
 
 -- what a search leaves where the end is written: the end where there is one; a refusal leaves what stood there
-abbrev pub endAfter : Finding → ℕ → ℕ
-endAfter (found place end) old = end
-endAfter (unfound n) old = old
+abbrev pub end_after : Finding → ℕ → ℕ
+end_after (found place end) old = end
+end_after (unfound n) old = old

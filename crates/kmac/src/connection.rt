@@ -3,8 +3,8 @@ ghost use Rattle.std.specs.Prelude.{◌≡◌};
 ghost use Rattle.octets.specs.Bytes.{nonzero};
 ghost use Rattle.refusal.specs.House.{gives};
 ghost use Rattle.refusal.specs.Code.{code};
-ghost use Rattle.table.specs.Steps.{kind_of, connectRequest, connectResponse, dataRequest, disconnectRequest, connectIndication, connectConfirmation, disconnectIndication, unitIndication, timeOut, step, kindNumbered};
-ghost use Rattle.connection_buffer.specs.ConnectionBuffer.{connectionOf, kindNumber, Tells};
+ghost use Rattle.table.specs.Steps.{kind_of, connect_request, connect_response, data_request, disconnect_request, connect_indication, connect_confirmation, disconnect_indication, unit_indication, time_out, step, kind_numbered};
+ghost use Rattle.connection_buffer.specs.ConnectionBuffer.{connection_of, kind_number, Tells};
 
 // Sa-CONNECT.request: the caller begins set-up.
 #[unsafe(no_mangle)]
@@ -19,7 +19,7 @@ pub extern "C" fn kmac_connect_request(
     events: &mut [u8; 8],
     out: &mut [u8],
 ) -> i32
-    ensures { Tells (step (connectRequest (nonzero acceptable) own peer t rb.now store.now) (connectionOf connection.old) out.old) result connection.old connection.new events.old events.new out.new }
+    ensures { Tells (step (connect_request (nonzero acceptable) own peer t rb.now store.now) (connection_of connection.old) out.old) result connection.old connection.new events.old events.new out.new }
 {
     connection_buffer::connect_request(
         connection, acceptable, own, peer, t, *rb, store, events, out,
@@ -33,7 +33,7 @@ pub extern "C" fn kmac_connect_response(
     events: &mut [u8; 8],
     out: &mut [u8],
 ) -> i32
-    ensures { Tells (step connectResponse (connectionOf connection.old) out.old) result connection.old connection.new events.old events.new out.new }
+    ensures { Tells (step connect_response (connection_of connection.old) out.old) result connection.old connection.new events.old events.new out.new }
 {
     connection_buffer::connect_response(connection, events, out)
 }
@@ -46,7 +46,7 @@ pub extern "C" fn kmac_data_request(
     events: &mut [u8; 8],
     out: &mut [u8],
 ) -> i32
-    ensures { Tells (step (dataRequest user.now) (connectionOf connection.old) out.old) result connection.old connection.new events.old events.new out.new }
+    ensures { Tells (step (data_request user.now) (connection_of connection.old) out.old) result connection.old connection.new events.old events.new out.new }
 {
     connection_buffer::data_request(connection, user, events, out)
 }
@@ -60,7 +60,7 @@ pub extern "C" fn kmac_disconnect_request(
     events: &mut [u8; 8],
     out: &mut [u8],
 ) -> i32
-    ensures { Tells (step (disconnectRequest reason sub) (connectionOf connection.old) out.old) result connection.old connection.new events.old events.new out.new }
+    ensures { Tells (step (disconnect_request reason sub) (connection_of connection.old) out.old) result connection.old connection.new events.old events.new out.new }
 {
     connection_buffer::disconnect_request(connection, reason, sub, events, out)
 }
@@ -78,7 +78,7 @@ pub extern "C" fn kmac_connect_indication(
     events: &mut [u8; 8],
     out: &mut [u8],
 ) -> i32
-    ensures { Tells (step (connectIndication (nonzero acceptable) own t ra.now unit.now store.now) (connectionOf connection.old) out.old) result connection.old connection.new events.old events.new out.new }
+    ensures { Tells (step (connect_indication (nonzero acceptable) own t ra.now unit.now store.now) (connection_of connection.old) out.old) result connection.old connection.new events.old events.new out.new }
 {
     connection_buffer::connect_indication(
         connection, acceptable, own, t, *ra, unit, store, events, out,
@@ -93,7 +93,7 @@ pub extern "C" fn kmac_connect_confirmation(
     events: &mut [u8; 8],
     out: &mut [u8],
 ) -> i32
-    ensures { Tells (step (connectConfirmation unit.now) (connectionOf connection.old) out.old) result connection.old connection.new events.old events.new out.new }
+    ensures { Tells (step (connect_confirmation unit.now) (connection_of connection.old) out.old) result connection.old connection.new events.old events.new out.new }
 {
     connection_buffer::connect_confirmation(connection, unit, events, out)
 }
@@ -107,7 +107,7 @@ pub extern "C" fn kmac_disconnect_indication(
     events: &mut [u8; 8],
     out: &mut [u8],
 ) -> i32
-    ensures { Tells (step (disconnectIndication reason unit.now) (connectionOf connection.old) out.old) result connection.old connection.new events.old events.new out.new }
+    ensures { Tells (step (disconnect_indication reason unit.now) (connection_of connection.old) out.old) result connection.old connection.new events.old events.new out.new }
 {
     connection_buffer::disconnect_indication(connection, reason, unit, events, out)
 }
@@ -121,7 +121,7 @@ pub extern "C" fn kmac_unit_indication(
     events: &mut [u8; 8],
     out: &mut [u8],
 ) -> i32
-    ensures { Tells (step (unitIndication (kindNumbered kind) unit.now) (connectionOf connection.old) out.old) result connection.old connection.new events.old events.new out.new }
+    ensures { Tells (step (unit_indication (kind_numbered kind) unit.now) (connection_of connection.old) out.old) result connection.old connection.new events.old events.new out.new }
 {
     connection_buffer::unit_indication(connection, kind, unit, events, out)
 }
@@ -129,7 +129,7 @@ pub extern "C" fn kmac_unit_indication(
 // The kind of a unit, by its first byte.
 #[unsafe(no_mangle)]
 pub extern "C" fn kmac_unit_kind(unit: &[u8]) -> i32
-    ensures { result ≡ code (gives (kindNumber (kind_of unit.now))) }
+    ensures { result ≡ code (gives (kind_number (kind_of unit.now))) }
 {
     connection_buffer::unit_kind(unit)
 }
@@ -141,7 +141,7 @@ pub extern "C" fn kmac_time_out(
     events: &mut [u8; 8],
     out: &mut [u8],
 ) -> i32
-    ensures { Tells (step timeOut (connectionOf connection.old) out.old) result connection.old connection.new events.old events.new out.new }
+    ensures { Tells (step time_out (connection_of connection.old) out.old) result connection.old connection.new events.old events.new out.new }
 {
     connection_buffer::time_out(connection, events, out)
 }

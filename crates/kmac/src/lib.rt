@@ -1,15 +1,15 @@
 // The C interface: each function does what the call behind it does.
 ghost use Rattle.std.specs.Prelude.{◌≡◌, length};
 ghost use Rattle.octets.specs.Bytes.{nonzero};
-ghost use Rattle.refusal.specs.House.{gives, unlessRefused};
+ghost use Rattle.refusal.specs.House.{gives, unless_refused};
 ghost use Rattle.refusal.specs.Code.{code};
-ghost use Rattle.des.specs.Des.{desEncipher, desDecipher};
-ghost use Rattle.store.specs.Layout.{edition1, edition2, editionOf};
-ghost use Rattle.store.specs.Search.{place_in, find, emptyIn, emptied};
-ghost use Rattle.convert.specs.Convert.{answered, converted, convertedAs};
-ghost use Rattle.authentication.specs.Keys.{derived, sessionKeys};
+ghost use Rattle.des.specs.Des.{des_encipher, des_decipher};
+ghost use Rattle.store.specs.Layout.{edition1, edition2, edition_of};
+ghost use Rattle.store.specs.Search.{place_in, find, empty_in, emptied};
+ghost use Rattle.convert.specs.Convert.{answered, converted, converted_as};
+ghost use Rattle.authentication.specs.Keys.{derived, session_keys};
 ghost use Rattle.authentication.specs.Unit.{built, buffer, unit_of, checked};
-ghost use Rattle.kmac.specs.Code.{version, endAfter};
+ghost use Rattle.kmac.specs.Code.{version, end_after};
 
 use authentication::{Built, Checked, Derived};
 use convert::Converted;
@@ -41,7 +41,7 @@ pub extern "C" fn kmac_self_test() -> i32
 // Enciphers a block.
 #[unsafe(no_mangle)]
 pub extern "C" fn kmac_des_encipher(key: &[u8; 8], block: &[u8; 8], res: &mut [u8; 8])
-    ensures { res.new ≡ desEncipher key.now block.now }
+    ensures { res.new ≡ des_encipher key.now block.now }
 {
     *res = des::encipher(*key, *block);
 }
@@ -49,7 +49,7 @@ pub extern "C" fn kmac_des_encipher(key: &[u8; 8], block: &[u8; 8], res: &mut [u
 // Deciphers a block.
 #[unsafe(no_mangle)]
 pub extern "C" fn kmac_des_decipher(key: &[u8; 8], block: &[u8; 8], res: &mut [u8; 8])
-    ensures { res.new ≡ desDecipher key.now block.now }
+    ensures { res.new ≡ des_decipher key.now block.now }
 {
     *res = des::decipher(*key, *block);
 }
@@ -58,7 +58,7 @@ pub extern "C" fn kmac_des_decipher(key: &[u8; 8], block: &[u8; 8], res: &mut [u
 #[unsafe(no_mangle)]
 pub extern "C" fn kmac_find(store: &[u8], peer: u32, t: u32, end: &mut u32) -> i32
     ensures value { result ≡ code (place_in (find store.now peer t)) }
-    ensures end_after { «end».new ≡ endAfter (find store.now peer t) «end».old }
+    ensures end_after { «end».new ≡ end_after (find store.now peer t) «end».old }
 {
     match store::find(store, peer, t) {
         Found::At(n, e) => {
@@ -72,7 +72,7 @@ pub extern "C" fn kmac_find(store: &[u8], peer: u32, t: u32, end: &mut u32) -> i
 // Writes the empty store of the buffer's length.
 #[unsafe(no_mangle)]
 pub extern "C" fn kmac_empty_store(store: &mut [u8]) -> i32
-    ensures { (result ≡ code (emptyIn (editionOf (length store.old)))) × (store.new ≡ emptied (editionOf (length store.old)) store.old) }
+    ensures { (result ≡ code (empty_in (edition_of (length store.old)))) × (store.new ≡ emptied (edition_of (length store.old)) store.old) }
 {
     match store::empty(store) {
         Emptied::Done => 0,
@@ -82,7 +82,7 @@ pub extern "C" fn kmac_empty_store(store: &mut [u8]) -> i32
 
 // What C is told of a conversion.
 fn told_conversion(answer: Converted) -> i32
-    ensures { result ≡ code (convertedAs answer) }
+    ensures { result ≡ code (converted_as answer) }
 {
     match answer {
         Converted::Done => 0,
@@ -128,7 +128,7 @@ pub extern "C" fn kmac_session_keys(
     keys: &mut [u8; 24],
 ) -> i32
     ensures value { result ≡ code (derived kmac.now) }
-    ensures keys_after { keys.new ≡ unlessRefused (derived kmac.now) (sessionKeys kmac.now ra.now rb.now) keys.old }
+    ensures keys_after { keys.new ≡ unless_refused (derived kmac.now) (session_keys kmac.now ra.now rb.now) keys.old }
 {
     let made = authentication::session_keys(kmac, *ra, *rb);
     let answer = made.answer;

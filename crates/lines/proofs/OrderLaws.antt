@@ -8,8 +8,8 @@ use native.Mathlib.Omega.{arith}
 use lib.Dec.{eqb}
 use lib.ListN.{length, get_or}
 use borrow.Author.Tests.{lt-ltb, le-ltb, not-true, not-false}
-use Rattle.lines.specs.Connections.{verbFields}
-use Rattle.lines.specs.Orders.{fieldsOrder, commandOf, fieldCount, hasWord, commandOrder, namedOrder, order_of}
+use Rattle.lines.specs.Connections.{verb_fields}
+use Rattle.lines.specs.Orders.{fields_order, command_of, field_count, has_word, command_order, named_order, order_of}
 use Rattle.lines.specs.Words.{word}
 use Rattle.lines.specs.declared.orders.Command.{Command}
 use Rattle.lines.specs.declared.orders.Command.TheVariants as command
@@ -21,27 +21,27 @@ use Rattle.lines.specs.declared.fields.Fault.TheVariants as fault
 
 -- ---- commands
 
-few-of : (v : Verb) → verbFields v ≤ 4
-few-of verb.Connection = omega arith
-few-of verb.Call = omega arith
-few-of verb.Indicate = omega arith
-few-of verb.Confirm = omega arith
-few-of verb.Bring = omega arith
-few-of verb.Respond = omega arith
-few-of verb.Say = omega arith
-few-of verb.Release = omega arith
-few-of verb.Lost = omega arith
-few-of verb.End = omega arith
-few-of verb.Late = omega arith
+few_of : (v : Verb) → verb_fields v ≤ 4
+few_of verb.Connection = omega arith
+few_of verb.Call = omega arith
+few_of verb.Indicate = omega arith
+few_of verb.Confirm = omega arith
+few_of verb.Bring = omega arith
+few_of verb.Respond = omega arith
+few_of verb.Say = omega arith
+few_of verb.Release = omega arith
+few_of verb.Lost = omega arith
+few_of verb.End = omega arith
+few_of verb.Late = omega arith
 
-pub few-fields : (c : Command) → fieldCount c ≤ 4
+pub few-fields : (c : Command) → field_count c ≤ 4
 few-fields command.Begin = omega arith
 few-fields command.Message = omega arith
 few-fields command.Search = omega arith
 few-fields command.Keys = omega arith
 few-fields command.Build = omega arith
 few-fields command.Check = omega arith
-few-fields (command.Connection v) = few-of v
+few-fields (command.Connection v) = few_of v
 few-fields command.Store = omega arith
 few-fields command.Edition = omega arith
 few-fields command.Convert = omega arith
@@ -50,30 +50,30 @@ few-fields command.Empty = omega arith
 few-fields command.Help = omega arith
 
 -- the tests for words that are missing, and for words too many
-module _ (c : Command) (s : List ℕ) (n : ℕ) (p : n ≡ fieldCount c) (r : Bool) (h : r ≡ hasWord s n) where
-  pub too_few : not r ≡ true → order.Bad fault.TooFewWords c ≡ commandOrder c s
-  unfolding commandOrder
+module _ (c : Command) (s : List ℕ) (n : ℕ) (p : n ≡ field_count c) (r : Bool) (h : r ≡ has_word s n) where
+  pub too_few : not r ≡ true → order.Bad fault.TooFewWords c ≡ command_order c s
+  unfolding command_order
   too_few t = simp (sym p, sym h, not-true r t)
 
-  pub too_many : (q : Bool) → not r ≡ false → q ≡ hasWord s (n + 1) → q ≡ true → order.Bad fault.TooManyWords c ≡ commandOrder c s
-  unfolding commandOrder
+  pub too_many : (q : Bool) → not r ≡ false → q ≡ has_word s (n + 1) → q ≡ true → order.Bad fault.TooManyWords c ≡ command_order c s
+  unfolding command_order
   too_many q t k e = simp (sym p, sym h, not-false r t, sym k, e)
 
-  pub all_words : (q : Bool) → not r ≡ false → q ≡ hasWord s (n + 1) → q ≡ false → fieldsOrder c s ≡ commandOrder c s
-  unfolding commandOrder
+  pub all_words : (q : Bool) → not r ≡ false → q ≡ has_word s (n + 1) → q ≡ false → fields_order c s ≡ command_order c s
+  unfolding command_order
   all_words q t k e = simp (sym p, sym h, not-false r t, sym k, e)
 
 -- ---- lines
 
 module _ (s : List ℕ) (r : Bool) (h : r ≡ eqb (get_or s 0 0) 35) where
-  pub a-note : r ≡ true → order.Note ≡ order_of s
+  pub a_note : r ≡ true → order.Note ≡ order_of s
   unfolding order_of
-  a-note e = simp (sym h, e)
+  a_note e = simp (sym h, e)
 
   pub no_word : r ≡ false → (w : List ℕ) → w ≡ word s 0 → length w ≡ 0 → order.Nothing ≡ order_of s
   unfolding order_of
   no_word e w p l = simp (sym h, e, sym p, le-ltb 0 (length w) (omega arith))
 
-  pub a_word : r ≡ false → (w : List ℕ) → w ≡ word s 0 → (length w ≡ 0 → ⊥) → (n : Named) → n ≡ commandOf w → namedOrder n s ≡ order_of s
+  pub a_word : r ≡ false → (w : List ℕ) → w ≡ word s 0 → (length w ≡ 0 → ⊥) → (n : Named) → n ≡ command_of w → named_order n s ≡ order_of s
   unfolding order_of
   a_word e w p l n q = let z : 0 < length w = omega arith in simp (sym h, e, sym p, lt-ltb 0 (length w) z, sym q)

@@ -9,7 +9,7 @@ use lib.Dec.{leb, ltb}
 use borrow.Author.Tests.{lt-ltb, le-leb, lt-leb, ltb-true, ltb-false}
 use Rattle.octets.specs.Bytes.{Bytes}
 use Rattle.octets.proofs.BoolLaws.{and_both}
-use Rattle.lines.specs.Digits.{digit, areDigits, glyph, fromHex, bytes_of, toHex, pickList}
+use Rattle.lines.specs.Digits.{digit, are_digits, glyph, from_hex, bytes_of, to_hex, pick_list}
 use Rattle.lines.specs.Claims.{ReadsBack}
 
 -- ---- a digit
@@ -34,16 +34,16 @@ below x h = let e = digit_glyph x h in lt-ltb (digit (glyph x)) 16 (omega arith)
 
 -- ---- bytes
 
-pub digits-written : (s : List ℕ) → Bytes s → areDigits 16 (toHex s) ≡ true
-unfolding areDigits toHex
+pub digits-written : (s : List ℕ) → Bytes s → are_digits 16 (to_hex s) ≡ true
+unfolding are_digits to_hex
 digits-written [] b = refl
 digits-written (x ∷ s) b =
     let h : x < 256 = b 0 in
     and_both (ltb (digit (glyph (x / 16))) 16) _ (below (x / 16) (omega arith))
     (and_both (ltb (digit (glyph (x % 16))) 16) _ (below (x % 16) (omega arith)) (digits-written s (λ i. b (suc i))))
 
-bytes_back : (s : List ℕ) → Bytes s → fromHex (toHex s) ≡ s
-unfolding fromHex toHex
+bytes_back : (s : List ℕ) → Bytes s → from_hex (to_hex s) ≡ s
+unfolding from_hex to_hex
 bytes_back [] b = refl
 bytes_back (x ∷ s) b =
     let h : x < 256 = b 0 in
@@ -52,6 +52,6 @@ bytes_back (x ∷ s) b =
     let e : digit (glyph (x / 16)) * 16 + digit (glyph (x % 16)) ≡ x = omega arith in
     ap₂ (λ (y : ℕ) (t : List ℕ). y ∷ t) e (bytes_back s (λ i. b (suc i)))
 
-pub reads-back : ReadsBack
+pub reads_back : ReadsBack
 unfolding bytes_of
-reads-back s b = ap (λ (t : Bool). pickList t (fromHex (toHex s))) (digits-written s b) ∙ bytes_back s b
+reads_back s b = ap (λ (t : Bool). pick_list t (from_hex (to_hex s))) (digits-written s b) ∙ bytes_back s b

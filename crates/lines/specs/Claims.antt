@@ -2,7 +2,7 @@
 -- Assumes nothing.
 use Rattle.std.specs.Prelude.{List, ◌≡◌, ℕ}
 use Rattle.octets.specs.Bytes.{Bytes}
-use Rattle.lines.specs.Digits.{bytes_of, toHex}
+use Rattle.lines.specs.Digits.{bytes_of, to_hex}
 
 abbrev pub ReadsBack : Type 0
-ReadsBack = (s : List ℕ) → Bytes s → bytes_of (toHex s) ≡ s
+ReadsBack = (s : List ℕ) → Bytes s → bytes_of (to_hex s) ≡ s

@@ -4,27 +4,27 @@ use Rattle.std.specs.Prelude.{Bool, true, false, ◌&&◌, List, [], ◌∷◌, 
 use Rattle.octets.specs.Bytes.{between, splice}
 use Rattle.io.specs.Counts.{IsPrefixLen}
 
-abbrev pub pickNumber : Bool → ℕ → ℕ → ℕ
-pickNumber true a b = a
-pickNumber false a b = b
+abbrev pub pick_number : Bool → ℕ → ℕ → ℕ
+pick_number true a b = a
+pick_number false a b = b
 
 -- ---- digits
 
 -- 0 to 9 are 48 to 57, A to F are 65 to 70, a to f are 97 to 102; 16 where it is none
 unfoldable pub digit : ℕ → ℕ
 digit b =
-    pickNumber (between 48 57 b) (b - 48)
-    (pickNumber (between 65 70 b) (b - 65 + 10)
-    (pickNumber (between 97 102 b) (b - 97 + 10) 16))
+    pick_number (between 48 57 b) (b - 48)
+    (pick_number (between 65 70 b) (b - 65 + 10)
+    (pick_number (between 97 102 b) (b - 97 + 10) 16))
 
 -- every element is a digit in the base
-unfoldable pub areDigits : ℕ → List ℕ → Bool
-areDigits base [] = true
-areDigits base (b ∷ s) = ltb (digit b) base && areDigits base s
+unfoldable pub are_digits : ℕ → List ℕ → Bool
+are_digits base [] = true
+are_digits base (b ∷ s) = ltb (digit b) base && are_digits base s
 
 -- the digit of a value below 16, in lower case
 unfoldable pub glyph : ℕ → ℕ
-glyph x = pickNumber (ltb x 10) (48 + x) (87 + x)
+glyph x = pick_number (ltb x 10) (48 + x) (87 + x)
 
 -- ---- texts of digits
 
@@ -34,23 +34,23 @@ numeral base r [] = r
 numeral base r (b ∷ s) = numeral base (r * base + digit b) s
 
 -- the bytes of a text, two digits for each
-unfoldable pub fromHex : List ℕ → List ℕ
-fromHex [] = []
-fromHex (a ∷ []) = []
-fromHex (a ∷ b ∷ s) = (digit a * 16 + digit b) ∷ fromHex s
+unfoldable pub from_hex : List ℕ → List ℕ
+from_hex [] = []
+from_hex (a ∷ []) = []
+from_hex (a ∷ b ∷ s) = (digit a * 16 + digit b) ∷ from_hex s
 
-abbrev pub pickList : Bool → List ℕ → List ℕ
-pickList true a = a
-pickList false a = []
+abbrev pub pick_list : Bool → List ℕ → List ℕ
+pick_list true a = a
+pick_list false a = []
 
 -- the bytes of a text in hex; none where one of its elements is no digit
 unfoldable pub bytes_of : List ℕ → List ℕ
-bytes_of s = pickList (areDigits 16 s) (fromHex s)
+bytes_of s = pick_list (are_digits 16 s) (from_hex s)
 
 -- bytes as a text, two digits for each
-unfoldable pub toHex : List ℕ → List ℕ
-toHex [] = []
-toHex (x ∷ s) = glyph (x / 16) ∷ glyph (x % 16) ∷ toHex s
+unfoldable pub to_hex : List ℕ → List ℕ
+to_hex [] = []
+to_hex (x ∷ s) = glyph (x / 16) ∷ glyph (x % 16) ∷ to_hex s
 
 -- ---- what is promised
 

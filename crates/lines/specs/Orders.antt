@@ -3,8 +3,8 @@
 use Rattle.std.specs.Prelude.{Bool, true, false, not, List, [], ◌∷◌, ℕ, ◌+◌, ltb, eqb, length, get_or}
 use Rattle.octets.specs.Bytes.{same}
 use Rattle.lines.specs.Words.{word}
-use Rattle.lines.specs.Fields.{hexField, decimalField, bytesField}
-use Rattle.lines.specs.Connections.{nameField, verbFields, verbText, asked_of}
+use Rattle.lines.specs.Fields.{hex_field, decimal_field, bytes_field}
+use Rattle.lines.specs.Connections.{name_field, verb_fields, verb_text, asked_of}
 use Rattle.lines.specs.declared.orders.Command.{Command}
 use Rattle.lines.specs.declared.orders.Command.TheVariants as command
 use Rattle.lines.specs.declared.orders.Named.{Named}
@@ -25,74 +25,74 @@ use Rattle.lines.specs.declared.orders.Order.TheVariants as order
 -- ---- lines with fields
 
 -- what is asked with a field's number; where it is not read, why
-abbrev pub onValue : Command → Field → (ℕ → Order) → Order
-onValue c (field.Value v) k = k v
-onValue c (field.Bad f) k = order.Bad f c
+abbrev pub on_value : Command → Field → (ℕ → Order) → Order
+on_value c (field.Value v) k = k v
+on_value c (field.Bad f) k = order.Bad f c
 
-unfoldable pub beginOrder : List ℕ → Order
-beginOrder s =
-    onValue command.Begin (hexField (word s 1) 8) (λ own.
-    onValue command.Begin (hexField (word s 2) 8) (λ peer.
-    onValue command.Begin (decimalField (word s 3) 0 65535) (λ n. order.Begin own peer n)))
+unfoldable pub begin_order : List ℕ → Order
+begin_order s =
+    on_value command.Begin (hex_field (word s 1) 8) (λ own.
+    on_value command.Begin (hex_field (word s 2) 8) (λ peer.
+    on_value command.Begin (decimal_field (word s 3) 0 65535) (λ n. order.Begin own peer n)))
 
-unfoldable pub searchOrder : List ℕ → Order
-searchOrder s =
-    onValue command.Search (hexField (word s 1) 8) (λ peer.
-    onValue command.Search (hexField (word s 2) 8) (λ t. order.Search peer t))
+unfoldable pub search_order : List ℕ → Order
+search_order s =
+    on_value command.Search (hex_field (word s 1) 8) (λ peer.
+    on_value command.Search (hex_field (word s 2) 8) (λ t. order.Search peer t))
 
-unfoldable pub keysOrder : List ℕ → Order
-keysOrder s =
-    onValue command.Keys (decimalField (word s 1) 0 65535) (λ place.
-    onValue command.Keys (hexField (word s 2) 16) (λ ra.
-    onValue command.Keys (hexField (word s 3) 16) (λ rb. order.Keys place ra rb)))
+unfoldable pub keys_order : List ℕ → Order
+keys_order s =
+    on_value command.Keys (decimal_field (word s 1) 0 65535) (λ place.
+    on_value command.Keys (hex_field (word s 2) 16) (λ ra.
+    on_value command.Keys (hex_field (word s 3) 16) (λ rb. order.Keys place ra rb)))
 
 -- 1 or 2
-unfoldable pub editionOrder : List ℕ → Order
-editionOrder s = onValue command.Edition (decimalField (word s 1) 1 2) (λ n. order.Edition (eqb n 2))
+unfoldable pub edition_order : List ℕ → Order
+edition_order s = on_value command.Edition (decimal_field (word s 1) 1 2) (λ n. order.Edition (eqb n 2))
 
 -- the destination and the direction of a unit; behind them its bytes or its user data
-abbrev pub onField : Field → (ℕ → UnitField) → UnitField
-onField (field.Value v) k = k v
-onField (field.Bad f) k = unit.Bad f
+abbrev pub on_field : Field → (ℕ → UnitField) → UnitField
+on_field (field.Value v) k = k v
+on_field (field.Bad f) k = unit.Bad f
 
-unfoldable pub unitField : List ℕ → UnitField
-unitField s =
-    onField (hexField (word s 1) 6) (λ destination.
-    onField (decimalField (word s 2) 0 1) (λ direction.
-    onField (bytesField (word s 3)) (λ n. unit.Value destination (not (eqb direction 0)))))
+unfoldable pub unit_field : List ℕ → UnitField
+unit_field s =
+    on_field (hex_field (word s 1) 6) (λ destination.
+    on_field (decimal_field (word s 2) 0 1) (λ direction.
+    on_field (bytes_field (word s 3)) (λ n. unit.Value destination (not (eqb direction 0)))))
 
-abbrev pub onUnit : Command → UnitField → (ℕ → Bool → Order) → Order
-onUnit c (unit.Value destination direction) k = k destination direction
-onUnit c (unit.Bad f) k = order.Bad f c
+abbrev pub on_unit : Command → UnitField → (ℕ → Bool → Order) → Order
+on_unit c (unit.Value destination direction) k = k destination direction
+on_unit c (unit.Bad f) k = order.Bad f c
 
 -- what is asked of the connection that word 1 names
-abbrev pub onAsked : Command → Told → (Asked → Order) → Order
-onAsked c (told.Is a) k = k a
-onAsked c (told.Bad f) k = order.Bad f c
+abbrev pub on_asked : Command → Told → (Asked → Order) → Order
+on_asked c (told.Is a) k = k a
+on_asked c (told.Bad f) k = order.Bad f c
 
-unfoldable pub connectionOrder : Verb → List ℕ → Order
-connectionOrder v s =
-    onValue (command.Connection v) (nameField (word s 1)) (λ name.
-    onAsked (command.Connection v) (asked_of v s) (λ a. order.Connection (eqb name 1) a))
+unfoldable pub connection_order : Verb → List ℕ → Order
+connection_order v s =
+    on_value (command.Connection v) (name_field (word s 1)) (λ name.
+    on_asked (command.Connection v) (asked_of v s) (λ a. order.Connection (eqb name 1) a))
 
 -- bytes alone
-unfoldable pub bytesOrder : Command → Order → List ℕ → Order
-bytesOrder c o s = onValue c (bytesField (word s 1)) (λ n. o)
+unfoldable pub bytes_order : Command → Order → List ℕ → Order
+bytes_order c o s = on_value c (bytes_field (word s 1)) (λ n. o)
 
-unfoldable pub fieldsOrder : Command → List ℕ → Order
-fieldsOrder command.Begin s = beginOrder s
-fieldsOrder command.Message s = bytesOrder command.Message order.Message s
-fieldsOrder command.Search s = searchOrder s
-fieldsOrder command.Keys s = keysOrder s
-fieldsOrder command.Build s = onUnit command.Build (unitField s) order.Build
-fieldsOrder command.Check s = onUnit command.Check (unitField s) order.Check
-fieldsOrder (command.Connection v) s = connectionOrder v s
-fieldsOrder command.Store s = bytesOrder command.Store order.Store s
-fieldsOrder command.Edition s = editionOrder s
-fieldsOrder command.Convert s = order.Convert
-fieldsOrder command.Show s = order.Show
-fieldsOrder command.Empty s = order.Empty
-fieldsOrder command.Help s = order.Help
+unfoldable pub fields_order : Command → List ℕ → Order
+fields_order command.Begin s = begin_order s
+fields_order command.Message s = bytes_order command.Message order.Message s
+fields_order command.Search s = search_order s
+fields_order command.Keys s = keys_order s
+fields_order command.Build s = on_unit command.Build (unit_field s) order.Build
+fields_order command.Check s = on_unit command.Check (unit_field s) order.Check
+fields_order (command.Connection v) s = connection_order v s
+fields_order command.Store s = bytes_order command.Store order.Store s
+fields_order command.Edition s = edition_order s
+fields_order command.Convert s = order.Convert
+fields_order command.Show s = order.Show
+fields_order command.Empty s = order.Empty
+fields_order command.Help s = order.Help
 
 -- ---- commands
 
@@ -104,7 +104,7 @@ text_of command.Search = 115 ∷ 101 ∷ 97 ∷ 114 ∷ 99 ∷ 104 ∷ []
 text_of command.Keys = 107 ∷ 101 ∷ 121 ∷ 115 ∷ []
 text_of command.Build = 98 ∷ 117 ∷ 105 ∷ 108 ∷ 100 ∷ []
 text_of command.Check = 99 ∷ 104 ∷ 101 ∷ 99 ∷ 107 ∷ []
-text_of (command.Connection v) = verbText v
+text_of (command.Connection v) = verb_text v
 text_of command.Store = 115 ∷ 116 ∷ 111 ∷ 114 ∷ 101 ∷ []
 text_of command.Edition = 101 ∷ 100 ∷ 105 ∷ 116 ∷ 105 ∷ 111 ∷ 110 ∷ []
 text_of command.Convert = 99 ∷ 111 ∷ 110 ∷ 118 ∷ 101 ∷ 114 ∷ 116 ∷ []
@@ -112,67 +112,67 @@ text_of command.Show = 115 ∷ 104 ∷ 111 ∷ 119 ∷ []
 text_of command.Empty = 101 ∷ 109 ∷ 112 ∷ 116 ∷ 121 ∷ []
 text_of command.Help = 104 ∷ 101 ∷ 108 ∷ 112 ∷ []
 
-abbrev pub pickNamed : Bool → Named → Named → Named
-pickNamed true a b = a
-pickNamed false a b = b
+abbrev pub pick_named : Bool → Named → Named → Named
+pick_named true a b = a
+pick_named false a b = b
 
 -- the first command of a list whose text is the word
 unfoldable pub named_in : List Command → List ℕ → Named
 named_in [] w = named-as.Unknown
-named_in (c ∷ cs) w = pickNamed (same w (text_of c)) (named-as.Is c) (named_in cs w)
+named_in (c ∷ cs) w = pick_named (same w (text_of c)) (named-as.Is c) (named_in cs w)
 
 -- those for the bench itself
-abbrev pub benchCommands : List Command
-benchCommands = command.Store ∷ command.Edition ∷ command.Convert ∷ command.Show ∷ command.Empty ∷ command.Help ∷ []
+abbrev pub bench_commands : List Command
+bench_commands = command.Store ∷ command.Edition ∷ command.Convert ∷ command.Show ∷ command.Empty ∷ command.Help ∷ []
 
 -- those, and what the transport or the timer brings to a connection
-abbrev pub transportCommands : List Command
-transportCommands =
-    command.Connection verb.Indicate ∷ command.Connection verb.Confirm ∷ command.Connection verb.Bring ∷ command.Connection verb.Lost ∷ command.Connection verb.End ∷ command.Connection verb.Late ∷ benchCommands
+abbrev pub transport_commands : List Command
+transport_commands =
+    command.Connection verb.Indicate ∷ command.Connection verb.Confirm ∷ command.Connection verb.Bring ∷ command.Connection verb.Lost ∷ command.Connection verb.End ∷ command.Connection verb.Late ∷ bench_commands
 
 -- those, the connection itself, and what a user brings to it
-abbrev pub connectionCommands : List Command
-connectionCommands =
-    command.Connection verb.Connection ∷ command.Connection verb.Call ∷ command.Connection verb.Respond ∷ command.Connection verb.Say ∷ command.Connection verb.Release ∷ transportCommands
+abbrev pub connection_commands : List Command
+connection_commands =
+    command.Connection verb.Connection ∷ command.Connection verb.Call ∷ command.Connection verb.Respond ∷ command.Connection verb.Say ∷ command.Connection verb.Release ∷ transport_commands
 
-unfoldable pub commandOf : List ℕ → Named
-commandOf w =
-    named_in (command.Begin ∷ command.Message ∷ command.Search ∷ command.Keys ∷ command.Build ∷ command.Check ∷ connectionCommands) w
+unfoldable pub command_of : List ℕ → Named
+command_of w =
+    named_in (command.Begin ∷ command.Message ∷ command.Search ∷ command.Keys ∷ command.Build ∷ command.Check ∷ connection_commands) w
 
 -- how many words follow a command
-abbrev pub fieldCount : Command → ℕ
-fieldCount command.Begin = 3
-fieldCount command.Message = 1
-fieldCount command.Search = 2
-fieldCount command.Keys = 3
-fieldCount command.Build = 3
-fieldCount command.Check = 3
-fieldCount (command.Connection v) = verbFields v
-fieldCount command.Store = 1
-fieldCount command.Edition = 1
-fieldCount command.Convert = 0
-fieldCount command.Show = 0
-fieldCount command.Empty = 0
-fieldCount command.Help = 0
+abbrev pub field_count : Command → ℕ
+field_count command.Begin = 3
+field_count command.Message = 1
+field_count command.Search = 2
+field_count command.Keys = 3
+field_count command.Build = 3
+field_count command.Check = 3
+field_count (command.Connection v) = verb_fields v
+field_count command.Store = 1
+field_count command.Edition = 1
+field_count command.Convert = 0
+field_count command.Show = 0
+field_count command.Empty = 0
+field_count command.Help = 0
 
-abbrev pub pickOrder : Bool → Order → Order → Order
-pickOrder true a b = a
-pickOrder false a b = b
+abbrev pub pick_order : Bool → Order → Order → Order
+pick_order true a b = a
+pick_order false a b = b
 
 -- a line has a word k
-abbrev pub hasWord : List ℕ → ℕ → Bool
-hasWord s k = ltb 0 (length (word s k))
+abbrev pub has_word : List ℕ → ℕ → Bool
+has_word s k = ltb 0 (length (word s k))
 
-unfoldable pub commandOrder : Command → List ℕ → Order
-commandOrder c s =
-    pickOrder (hasWord s (fieldCount c))
-    (pickOrder (hasWord s (fieldCount c + 1)) (order.Bad fault.TooManyWords c) (fieldsOrder c s))
+unfoldable pub command_order : Command → List ℕ → Order
+command_order c s =
+    pick_order (has_word s (field_count c))
+    (pick_order (has_word s (field_count c + 1)) (order.Bad fault.TooManyWords c) (fields_order c s))
     (order.Bad fault.TooFewWords c)
 
-unfoldable pub namedOrder : Named → List ℕ → Order
-namedOrder (named-as.Is c) s = commandOrder c s
-namedOrder named-as.Unknown s = order.Unknown
+unfoldable pub named_order : Named → List ℕ → Order
+named_order (named-as.Is c) s = command_order c s
+named_order named-as.Unknown s = order.Unknown
 
 -- what a line asks: a line that starts with # is a note, and one with no word asks nothing
 unfoldable pub order_of : List ℕ → Order
-order_of s = pickOrder (eqb (get_or s 0 0) 35) order.Note (pickOrder (hasWord s 0) (namedOrder (commandOf (word s 0)) s) order.Nothing)
+order_of s = pick_order (eqb (get_or s 0 0) 35) order.Note (pick_order (has_word s 0) (named_order (command_of (word s 0)) s) order.Nothing)

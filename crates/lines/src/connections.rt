@@ -1,7 +1,7 @@
 // What a line asks of one of the two connections, a and b.
 ghost use Rattle.std.specs.Prelude.{◌≡◌};
 ghost use Rattle.lines.specs.Words.{word as word_of};
-ghost use Rattle.lines.specs.Connections.{nameField, verbFields, bytesAsked, asked_of};
+ghost use Rattle.lines.specs.Connections.{name_field, verb_fields, bytes_asked, asked_of};
 
 use crate::fields::{Fault, Field, bytes_field, decimal_field, hex_field};
 use crate::words::{same, word};
@@ -57,7 +57,7 @@ pub enum Told {
 
 // Word 1 as a connection's name: a is 0 and b is 1.
 pub fn name_field(line: &[u8]) -> Field
-    ensures { result ≡ nameField (word_of line.now 1) }
+    ensures { result ≡ name_field (word_of line.now 1) }
 {
     let w = word(line, 1);
     if same(w, b"a") {
@@ -71,7 +71,7 @@ pub fn name_field(line: &[u8]) -> Field
 
 // How many words follow a command for a connection.
 pub fn verb_fields(verb: Verb) -> usize
-    ensures { result ≡ verbFields verb }
+    ensures { result ≡ verb_fields verb }
 {
     match verb {
         Verb::Connection => 2,
@@ -92,7 +92,7 @@ pub fn verb_fields(verb: Verb) -> usize
 
 // An event whose last field is bytes, in word k.
 fn with_bytes(line: &[u8], k: usize, event: Event) -> Told
-    ensures { result ≡ bytesAsked line.now k event }
+    ensures { result ≡ bytes_asked line.now k event }
 {
     match bytes_field(line, k) {
         Field::Value(_) => Told::Is(Asked::Event(event)),

@@ -1,7 +1,7 @@
 // Digits in ASCII, of either case: numbers and bytes read from them, and bytes written as them.
 ghost use Rattle.std.specs.Prelude.{◌≡◌, true, ◌<◌, ◌≤◌, ◌/◌, ◌*◌, min, length, take};
 ghost use Rattle.octets.specs.Bytes.{between as isBetween, splice};
-ghost use Rattle.lines.specs.Digits.{digit as digitOf, areDigits, glyph as glyphOf, fromHex, bytes_of, toHex, Numbers, Puts};
+ghost use Rattle.lines.specs.Digits.{digit as digitOf, are_digits, glyph as glyphOf, from_hex, bytes_of, to_hex, Numbers, Puts};
 
 fn between(low: u8, high: u8, x: u8) -> bool
     ensures { result ≡ isBetween low high x }
@@ -30,7 +30,7 @@ fn digit(b: u8) -> u8
 
 // Whether every byte is a digit in the base.
 pub fn are_digits(s: &[u8], base: u8) -> bool
-    ensures { result ≡ areDigits base s.now }
+    ensures { result ≡ are_digits base s.now }
 {
     let mut i = 0;
     while i < s.len() {
@@ -44,7 +44,7 @@ pub fn are_digits(s: &[u8], base: u8) -> bool
 
 // The number that at most 16 digits stand for.
 pub fn number(s: &[u8], base: u8) -> u64
-    requires { (base ≤ 16) × (length s.now ≤ 16) × (areDigits base s.now ≡ true) }
+    requires { (base ≤ 16) × (length s.now ≤ 16) × (are_digits base s.now ≡ true) }
     ensures { Numbers base s.now result }
 {
     let mut r: u64 = 0;
@@ -64,8 +64,8 @@ pub fn least(a: usize, b: usize) -> usize
 
 // Writes the first n bytes of a text in hex to the front of out.
 fn put_bytes(s: &[u8], out: &mut [u8], n: usize)
-    requires { (2 * n ≤ length s.now) × (n ≤ length out.old) × (areDigits 16 s.now ≡ true) }
-    ensures { out.new ≡ splice out.old 0 (take n (fromHex s.now)) }
+    requires { (2 * n ≤ length s.now) × (n ≤ length out.old) × (are_digits 16 s.now ≡ true) }
+    ensures { out.new ≡ splice out.old 0 (take n (from_hex s.now)) }
 {
     let mut i = 0;
     while i < n {
@@ -97,7 +97,7 @@ fn glyph(x: u8) -> u8
 // Writes the first n bytes in hex to the front of out.
 fn put_digits(s: &[u8], out: &mut [u8], n: usize)
     requires { (n ≤ length s.now) × (2 * n ≤ length out.old) }
-    ensures { out.new ≡ splice out.old 0 (toHex (take n s.now)) }
+    ensures { out.new ≡ splice out.old 0 (to_hex (take n s.now)) }
 {
     let mut i = 0;
     while i < n {
@@ -109,7 +109,7 @@ fn put_digits(s: &[u8], out: &mut [u8], n: usize)
 
 // Writes bytes in hex to the front of out, as many as it has room for, and answers how many digits.
 pub fn encode(s: &[u8], out: &mut [u8]) -> usize
-    ensures { Puts (toHex (take (length out.old / 2) s.now)) out.old out.new result }
+    ensures { Puts (to_hex (take (length out.old / 2) s.now)) out.old out.new result }
 {
     let n = least(s.len(), out.len() / 2);
     put_digits(s, out, n);

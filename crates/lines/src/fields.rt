@@ -1,7 +1,7 @@
 // The fields of a line: numbers and bytes in digits.
 ghost use Rattle.std.specs.Prelude.{◌≡◌, ◌≤◌, ◌<◌, ◌+◌, ◌*◌, ◌^◌};
 ghost use Rattle.lines.specs.Words.{word as word_of};
-ghost use Rattle.lines.specs.Fields.{hexField, decimalField, bytesField, Reads};
+ghost use Rattle.lines.specs.Fields.{hex_field, decimal_field, bytes_field, Reads};
 
 use crate::digits::{are_digits, number};
 use crate::words::word;
@@ -29,7 +29,7 @@ pub enum Field {
 // Word k as a number of so many hex digits, at most 16.
 pub fn hex_field(line: &[u8], k: usize, digits: usize) -> Field
     requires { digits ≤ 16 }
-    ensures { Reads (hexField (word_of line.now k) digits) (2 ^ (4 * digits)) result }
+    ensures { Reads (hex_field (word_of line.now k) digits) (2 ^ (4 * digits)) result }
 {
     let w = word(line, k);
     if !are_digits(w, 16) {
@@ -43,7 +43,7 @@ pub fn hex_field(line: &[u8], k: usize, digits: usize) -> Field
 
 // Word k as a decimal number in a range.
 pub fn decimal_field(line: &[u8], k: usize, least: u64, most: u64) -> Field
-    ensures { Reads (decimalField (word_of line.now k) least most) (most + 1) result }
+    ensures { Reads (decimal_field (word_of line.now k) least most) (most + 1) result }
 {
     let w = word(line, k);
     if !are_digits(w, 10) {
@@ -64,7 +64,7 @@ pub fn decimal_field(line: &[u8], k: usize, least: u64, most: u64) -> Field
 
 // Word k as bytes in hex: how many.
 pub fn bytes_field(line: &[u8], k: usize) -> Field
-    ensures { result ≡ bytesField (word_of line.now k) }
+    ensures { result ≡ bytes_field (word_of line.now k) }
 {
     let w = word(line, k);
     if !are_digits(w, 16) {

@@ -1,7 +1,7 @@
 // What a line asks.
 ghost use Rattle.std.specs.Prelude.{◌≡◌, eqb, get_or};
 ghost use Rattle.octets.specs.Bytes.{same as isSame};
-ghost use Rattle.lines.specs.Orders.{beginOrder, searchOrder, keysOrder, editionOrder, unitField, onUnit, connectionOrder, bytesOrder, fieldsOrder, pickNamed, named_in, benchCommands, transportCommands, connectionCommands, commandOf, fieldCount, hasWord, commandOrder, order_of};
+ghost use Rattle.lines.specs.Orders.{begin_order, search_order, keys_order, edition_order, unit_field, on_unit, connection_order, bytes_order, fields_order, pick_named, named_in, bench_commands, transport_commands, connection_commands, command_of, field_count, has_word, command_order, order_of};
 
 use crate::connections::{Asked, Told, Verb, fields_of, name_field, verb_fields};
 use crate::fields::{Fault, Field, bytes_field, decimal_field, hex_field};
@@ -65,7 +65,7 @@ pub enum UnitField {
 // ---- lines
 
 fn begin(line: &[u8]) -> Order
-    ensures { result ≡ beginOrder line.now }
+    ensures { result ≡ begin_order line.now }
 {
     let own = match hex_field(line, 1, 8) {
         Field::Value(v) => v,
@@ -83,7 +83,7 @@ fn begin(line: &[u8]) -> Order
 
 // A line that has bytes in hex and no other field.
 fn with_bytes(line: &[u8], command: Command, order: Order) -> Order
-    ensures { result ≡ bytesOrder command order line.now }
+    ensures { result ≡ bytes_order command order line.now }
 {
     match bytes_field(line, 1) {
         Field::Value(_) => order,
@@ -92,7 +92,7 @@ fn with_bytes(line: &[u8], command: Command, order: Order) -> Order
 }
 
 fn search(line: &[u8]) -> Order
-    ensures { result ≡ searchOrder line.now }
+    ensures { result ≡ search_order line.now }
 {
     let peer = match hex_field(line, 1, 8) {
         Field::Value(v) => v,
@@ -105,7 +105,7 @@ fn search(line: &[u8]) -> Order
 }
 
 fn keys(line: &[u8]) -> Order
-    ensures { result ≡ keysOrder line.now }
+    ensures { result ≡ keys_order line.now }
 {
     let place = match decimal_field(line, 1, 0, 65535) {
         Field::Value(v) => v,
@@ -122,7 +122,7 @@ fn keys(line: &[u8]) -> Order
 }
 
 fn edition(line: &[u8]) -> Order
-    ensures { result ≡ editionOrder line.now }
+    ensures { result ≡ edition_order line.now }
 {
     match decimal_field(line, 1, 1, 2) {
         Field::Value(v) => Order::Edition(v == 2),
@@ -132,7 +132,7 @@ fn edition(line: &[u8]) -> Order
 
 // The destination and the direction of a unit; its bytes or its user data stand behind them.
 fn unit_field(line: &[u8]) -> UnitField
-    ensures { result ≡ unitField line.now }
+    ensures { result ≡ unit_field line.now }
 {
     let destination = match hex_field(line, 1, 6) {
         Field::Value(v) => v,
@@ -149,7 +149,7 @@ fn unit_field(line: &[u8]) -> UnitField
 }
 
 fn build(line: &[u8]) -> Order
-    ensures { result ≡ onUnit Command.Build (unitField line.now) Order.Build }
+    ensures { result ≡ on_unit Command.Build (unit_field line.now) Order.Build }
 {
     match unit_field(line) {
         UnitField::Value(destination, direction) => Order::Build(destination, direction),
@@ -158,7 +158,7 @@ fn build(line: &[u8]) -> Order
 }
 
 fn check(line: &[u8]) -> Order
-    ensures { result ≡ onUnit Command.Check (unitField line.now) Order.Check }
+    ensures { result ≡ on_unit Command.Check (unit_field line.now) Order.Check }
 {
     match unit_field(line) {
         UnitField::Value(destination, direction) => Order::Check(destination, direction),
@@ -167,7 +167,7 @@ fn check(line: &[u8]) -> Order
 }
 
 fn connection(verb: Verb, line: &[u8]) -> Order
-    ensures { result ≡ connectionOrder verb line.now }
+    ensures { result ≡ connection_order verb line.now }
 {
     let name = match name_field(line) {
         Field::Value(v) => v,
@@ -183,7 +183,7 @@ fn connection(verb: Verb, line: &[u8]) -> Order
 
 // The command where the word is its text, else what the others say.
 fn or_else(w: &[u8], text: &[u8], command: Command, others: Named) -> Named
-    ensures { result ≡ pickNamed (isSame w.now text.now) (Named.Is command) others }
+    ensures { result ≡ pick_named (isSame w.now text.now) (Named.Is command) others }
 {
     if same(w, text) {
         return Named::Is(command);
@@ -193,7 +193,7 @@ fn or_else(w: &[u8], text: &[u8], command: Command, others: Named) -> Named
 
 // The command for the bench itself that a word names.
 fn bench_command_of(w: &[u8]) -> Named
-    ensures { result ≡ named_in benchCommands w.now }
+    ensures { result ≡ named_in bench_commands w.now }
 {
     let help = or_else(w, b"help", Command::Help, Named::Unknown);
     let empty = or_else(w, b"empty", Command::Empty, help);
@@ -205,7 +205,7 @@ fn bench_command_of(w: &[u8]) -> Named
 
 // The command that a word names: one for the bench, or an event that the transport or the timer brings to a connection.
 fn transport_command_of(w: &[u8]) -> Named
-    ensures { result ≡ named_in transportCommands w.now }
+    ensures { result ≡ named_in transport_commands w.now }
 {
     let bench = bench_command_of(w);
     let late = or_else(w, b"late", Command::Connection(Verb::Late), bench);
@@ -218,7 +218,7 @@ fn transport_command_of(w: &[u8]) -> Named
 
 // The same, or one that a user brings, or the connection itself.
 fn connection_command_of(w: &[u8]) -> Named
-    ensures { result ≡ named_in connectionCommands w.now }
+    ensures { result ≡ named_in connection_commands w.now }
 {
     let transport = transport_command_of(w);
     let release = or_else(w, b"release", Command::Connection(Verb::Release), transport);
@@ -235,7 +235,7 @@ fn connection_command_of(w: &[u8]) -> Named
 
 // The command that a word names.
 fn command_of(w: &[u8]) -> Named
-    ensures { result ≡ commandOf w.now }
+    ensures { result ≡ command_of w.now }
 {
     let connection = connection_command_of(w);
     let check = or_else(w, b"check", Command::Check, connection);
@@ -248,7 +248,7 @@ fn command_of(w: &[u8]) -> Named
 
 // How many words follow a command.
 fn field_count(command: Command) -> usize
-    ensures { result ≡ fieldCount command }
+    ensures { result ≡ field_count command }
 {
     match command {
         Command::Begin => 3,
@@ -268,7 +268,7 @@ fn field_count(command: Command) -> usize
 }
 
 fn has_word(line: &[u8], k: usize) -> bool
-    ensures { result ≡ hasWord line.now k }
+    ensures { result ≡ has_word line.now k }
 {
     let w = word(line, k);
     0 < w.len()
@@ -276,7 +276,7 @@ fn has_word(line: &[u8], k: usize) -> bool
 
 // A line whose command has as many words as it wants.
 fn read_fields(command: Command, line: &[u8]) -> Order
-    ensures { result ≡ fieldsOrder command line.now }
+    ensures { result ≡ fields_order command line.now }
 {
     match command {
         Command::Begin => begin(line),
@@ -297,7 +297,7 @@ fn read_fields(command: Command, line: &[u8]) -> Order
 
 // A line whose first word is that of a command.
 fn read_command(command: Command, line: &[u8]) -> Order
-    ensures { result ≡ commandOrder command line.now }
+    ensures { result ≡ command_order command line.now }
 {
     let n = field_count(command);
     if !has_word(line, n) {

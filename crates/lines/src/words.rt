@@ -1,7 +1,7 @@
 // The lines of a text and the words of a line.
 ghost use Rattle.std.specs.Prelude.{◌≡◌, ◌≤◌, length};
 ghost use Rattle.octets.specs.Bytes.{same as isSame};
-ghost use Rattle.lines.specs.Words.{isBlank, inClass, firstFrom, First, word as word_of};
+ghost use Rattle.lines.specs.Words.{is_blank, in_class, first_from, First, word as word_of};
 
 // What a search through a text stops at: a blank is a space, a tab or a carriage return, and a letter any other byte.
 #[derive(Drop)]
@@ -12,7 +12,7 @@ pub enum Class {
 }
 
 fn is_blank(b: u8) -> bool
-    ensures { result ≡ isBlank b }
+    ensures { result ≡ is_blank b }
 {
     if b == b' ' {
         return true;
@@ -24,7 +24,7 @@ fn is_blank(b: u8) -> bool
 }
 
 fn is_in(class: Class, b: u8) -> bool
-    ensures { result ≡ inClass class b }
+    ensures { result ≡ in_class class b }
 {
     match class {
         Class::LineEnd => b == b'\n',

@@ -9,9 +9,9 @@ use Rattle.octets.specs.Words.{numbers, elem}
 use Rattle.store.specs.Request.{add, entities}
 use Rattle.message.specs.declared.Command.TheVariants.{Adds, Entities}
 use Rattle.message.specs.declared.Task.TheVariants.{Requests}
-use Rattle.message.specs.Header.{messageLength, version, receiver, sender, transaction, sequence, typeNumber}
-use Rattle.message.specs.Body.{size_at, fieldsOk, requestAt, fieldsFrom, requestsFrom, requests, bodyOk}
-use Rattle.message.specs.Written.{initBytes, replyBytes, initOk}
+use Rattle.message.specs.Header.{message_length, version, receiver, sender, transaction, sequence, type_number}
+use Rattle.message.specs.Body.{size_at, fields_ok, request_at, fields_from, requests_from, requests, body_ok}
+use Rattle.message.specs.Written.{init_bytes, reply_bytes, init_ok}
 
 -- a session init of 01020304 to 05060708 with the number 0d0e
 abbrev init : List ℕ
@@ -19,16 +19,16 @@ init =
     0 ∷ 0 ∷ 0 ∷ 23 ∷ 2 ∷ 0x05 ∷ 0x06 ∷ 0x07 ∷ 0x08 ∷ 0x01 ∷ 0x02 ∷ 0x03 ∷ 0x04 ∷ 0 ∷ 0 ∷ 0 ∷ 0 ∷ 0x0d ∷ 0x0e ∷ 9
     ∷ 1 ∷ 2 ∷ 255 ∷ []
 
-init-bytes : initBytes 0x01020304 0x05060708 0x0d0e ≡ init
+init-bytes : init_bytes 0x01020304 0x05060708 0x0d0e ≡ init
 init-bytes = refl
 
-init-read : initOk init ≡ true
-unfolding initOk part elem
+init-read : init_ok init ≡ true
+unfolding init_ok part elem
 init-read = refl
 
 -- a reply of 01020304 to 05060708 with transaction number 090a0b0c, number 0d0e, RESPONSE 0 and the RESULTs 0 and 255
 reply-bytes :
-    replyBytes 0x01020304 0x05060708 0x090a0b0c 0x0d0e 0 (0 ∷ 255 ∷ [])
+    reply_bytes 0x01020304 0x05060708 0x090a0b0c 0x0d0e 0 (0 ∷ 255 ∷ [])
     ≡ 0 ∷ 0 ∷ 0 ∷ 25 ∷ 2 ∷ 0x05 ∷ 0x06 ∷ 0x07 ∷ 0x08 ∷ 0x01 ∷ 0x02 ∷ 0x03 ∷ 0x04 ∷ 0x09 ∷ 0x0a ∷ 0x0b ∷ 0x0c ∷ 0x0d ∷ 0x0e ∷ 11
     ∷ 0 ∷ 0 ∷ 2 ∷ 0 ∷ 255 ∷ []
 reply-bytes = refl
@@ -44,12 +44,12 @@ command =
     ∷ 0x51 ∷ 0x52 ∷ 0x53 ∷ 0x54 ∷ 0x61 ∷ 0x62 ∷ 0x63 ∷ 0x64 ∷ []
 
 fields_read :
-    messageLength command ∷ version command ∷ receiver command ∷ sender command ∷ transaction command ∷ sequence command ∷ typeNumber command ∷ []
+    message_length command ∷ version command ∷ receiver command ∷ sender command ∷ transaction command ∷ sequence command ∷ type_number command ∷ []
     ≡ 77 ∷ 2 ∷ 0x01020304 ∷ 0x05060708 ∷ 0x090a0b0c ∷ 0x0d0e ∷ 0 ∷ []
 fields_read = refl
 
-body-read : bodyOk (Requests Adds) command ≡ true
-unfolding bodyOk fieldsFrom fieldsOk size_at
+body-read : body_ok (Requests Adds) command ≡ true
+unfolding body_ok fields_from fields_ok size_at
 body-read = refl
 
 request-read :
@@ -64,5 +64,5 @@ request-read :
       peers = 0x31323334 ∷ 0x41424344 ∷ [];
     })
     ∷ []
-unfolding requests requestsFrom requestAt numbers part size_at
+unfolding requests requests_from request_at numbers part size_at
 request-read = refl

@@ -15,51 +15,51 @@ use Rattle.octets.proofs.WordLaws.{get32-fits, numbers_fit}
 use Rattle.store.specs.WellFormed.{Readable, AllReadable}
 use Rattle.message.specs.declared.Command.{Command}
 use Rattle.message.specs.declared.Command.TheVariants.{Adds, Deletes, Validities, Entities}
-use Rattle.message.specs.Body.{addCount, periodAt, entitiesCount, kmacAt, size_at, fieldsOk, fieldsFrom, requestAt, requestsFrom, requestNumber, requestsAt, most, listOk, requests, bodyOk}
+use Rattle.message.specs.Body.{add_count, period_at, entities_count, kmac_at, size_at, fields_ok, fields_from, request_at, requests_from, request_number, requests_at, most, list_ok, requests, body_ok}
 use Rattle.message.specs.Claims.{RequestsReadable}
 
 module _ (k : Command) (m : List ℕ) where
   -- the first request ends within the message, and the others stand behind it
-  pub fields_fit : (n at : ℕ) → fieldsFrom k m at (suc n) ≡ true → at + size_at k m at ≤ length m
-  unfolding fieldsFrom
+  pub fields_fit : (n at : ℕ) → fields_from k m at (suc n) ≡ true → at + size_at k m at ≤ length m
+  unfolding fields_from
   fields_fit n at h =
-      let a : Bool = fieldsOk k m at in
+      let a : Bool = fields_ok k m at in
       let b : Bool = leb (at + size_at k m at) (length m) in
-      let c : Bool = fieldsFrom k m (at + size_at k m at) n in
+      let c : Bool = fields_from k m (at + size_at k m at) n in
       leb-true (at + size_at k m at) (length m) (and_left b c (and_right a (b && c) h))
 
-  pub fields-rest : (n at : ℕ) → fieldsFrom k m at (suc n) ≡ true → fieldsFrom k m (at + size_at k m at) n ≡ true
-  unfolding fieldsFrom
+  pub fields-rest : (n at : ℕ) → fields_from k m at (suc n) ≡ true → fields_from k m (at + size_at k m at) n ≡ true
+  unfolding fields_from
   fields-rest n at h =
-      let a : Bool = fieldsOk k m at in
+      let a : Bool = fields_ok k m at in
       let b : Bool = leb (at + size_at k m at) (length m) in
-      let c : Bool = fieldsFrom k m (at + size_at k m at) n in
+      let c : Bool = fields_from k m (at + size_at k m at) n in
       and_right b c (and_right a (b && c) h)
 
-  pub listOk-fields : listOk k m ≡ true → fieldsFrom k m requestsAt (requestNumber m) ≡ true
-  listOk-fields h = and_right (between 1 (most k) (requestNumber m)) (fieldsFrom k m requestsAt (requestNumber m)) h
+  pub list_ok-fields : list_ok k m ≡ true → fields_from k m requests_at (request_number m) ≡ true
+  list_ok-fields h = and_right (between 1 (most k) (request_number m)) (fields_from k m requests_at (request_number m)) h
 
-pub readable-at : (k : Command) (m : List ℕ) → Bytes m → (at : ℕ) → at + size_at k m at ≤ length m → Readable (requestAt k m at)
-unfolding Readable requestAt size_at
+pub readable-at : (k : Command) (m : List ℕ) → Bytes m → (at : ℕ) → at + size_at k m at ≤ length m → Readable (request_at k m at)
+unfolding Readable request_at size_at
 readable-at Adds m b at h =
     record {
-      issuer-fits = get32-fits m b (at + 1);
-      serial-fits = get32-fits m b (at + 5);
-      start_fits = get32-fits m b (periodAt m at);
-      end_fits = get32-fits m b (periodAt m at + 4);
-      kmac-long = part_length m (kmacAt at) 24 (omega arith);
-      kmac-bytes = bytes-part m b (kmacAt at) 24;
-      peers-fit = record { fit = λ j l. numbers_fit m b (addCount m at) (at + 39) j };
+      issuer_fits = get32-fits m b (at + 1);
+      serial_fits = get32-fits m b (at + 5);
+      start_fits = get32-fits m b (period_at m at);
+      end_fits = get32-fits m b (period_at m at + 4);
+      kmac_long = part_length m (kmac_at at) 24 (omega arith);
+      kmac_bytes = bytes-part m b (kmac_at at) 24;
+      peers_fit = record { fit = λ j l. numbers_fit m b (add_count m at) (at + 39) j };
     }
 readable-at Deletes m b at h = tt
 readable-at Validities m b at h = (get32-fits m b (at + 8), get32-fits m b (at + 12))
-readable-at Entities m b at h = record { fit = λ j l. numbers_fit m b (entitiesCount m at) (at + 10) j }
+readable-at Entities m b at h = record { fit = λ j l. numbers_fit m b (entities_count m at) (at + 10) j }
 
-readable-from : (k : Command) (m : List ℕ) → Bytes m → (n at : ℕ) → fieldsFrom k m at n ≡ true → AllReadable (requestsFrom k m at n)
-unfolding AllReadable requestsFrom
+readable-from : (k : Command) (m : List ℕ) → Bytes m → (n at : ℕ) → fields_from k m at n ≡ true → AllReadable (requests_from k m at n)
+unfolding AllReadable requests_from
 readable-from k m b zero at h = tt
 readable-from k m b (suc n) at h = (readable-at k m b at (fields_fit k m n at h), readable-from k m b n (at + size_at k m at) (fields-rest k m n at h))
 
 pub requests-readable : RequestsReadable
-unfolding requests bodyOk
-requests-readable = record { readable = λ k m b h. readable-from k m b (requestNumber m) requestsAt (listOk-fields k m h) }
+unfolding requests body_ok
+requests-readable = record { readable = λ k m b h. readable-from k m b (request_number m) requests_at (list_ok-fields k m h) }

@@ -9,12 +9,12 @@ use Rattle.message.specs.declared.Kind.TheVariants.{Asks, SessionInit, Other}
 
 -- ---- the fields
 
-abbrev pub headerLength : ℕ
-headerLength = 20
+abbrev pub header_length : ℕ
+header_length = 20
 
 -- Message Length, Interface Version, Receiver ID, Sender ID, Transaction Number, Sequence Number, Message type
-abbrev pub messageLength : List ℕ → ℕ
-messageLength m = get32 m 0
+abbrev pub message_length : List ℕ → ℕ
+message_length m = get32 m 0
 
 abbrev pub version : List ℕ → ℕ
 version m = get_or m 4 0
@@ -31,8 +31,8 @@ transaction m = get32 m 13
 abbrev pub sequence : List ℕ → ℕ
 sequence m = get16 m 17
 
-abbrev pub typeNumber : List ℕ → ℕ
-typeNumber m = get_or m 19 0
+abbrev pub type_number : List ℕ → ℕ
+type_number m = get_or m 19 0
 
 -- ---- the message types (5.3.3)
 
@@ -47,4 +47,4 @@ kind_of t =
     (cond (eqb t 10) (Asks EndOfUpdate) Other))))))
 
 abbrev pub kind : List ℕ → Kind
-kind m = kind_of (typeNumber m)
+kind m = kind_of (type_number m)

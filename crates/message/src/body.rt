@@ -1,7 +1,7 @@
 // The body test: one grammar over the four commands with a list of requests.
 ghost use Rattle.std.specs.Prelude.{◌≡◌, true, ◌+◌, ◌*◌, ◌≤◌, ◌<◌, length};
 ghost use Rattle.octets.specs.Bytes.{between, get16};
-ghost use Rattle.message.specs.Body.{sized, sizeIf, most, listOk, bodyOk, fieldsFrom};
+ghost use Rattle.message.specs.Body.{sized, size_if, most, list_ok, body_ok, fields_from};
 
 use crate::{Command, HEADER, Sized, Task};
 
@@ -25,7 +25,7 @@ fn number_at(m: &[u8], i: usize) -> usize
 // A request of base bytes.
 fn fixed_size(m: &[u8], i: usize, base: usize) -> Sized
     requires { i ≤ length m.now }
-    ensures { result ≡ sizeIf true base m.now i }
+    ensures { result ≡ size_if true base m.now i }
 {
     if m.len() - i < base {
         return Sized::Bad;
@@ -36,7 +36,7 @@ fn fixed_size(m: &[u8], i: usize, base: usize) -> Sized
 // A request of base bytes, among them a PEER-NUM at index field, and of that many identities.
 fn peers_size(m: &[u8], i: usize, field: usize, base: usize) -> Sized
     requires { (i ≤ length m.now) × (field + 2 ≤ base) × (base < 100) }
-    ensures { result ≡ sizeIf (between 1 1000 (get16 m.now (i + field))) (base + 4 * get16 m.now (i + field)) m.now i }
+    ensures { result ≡ size_if (between 1 1000 (get16 m.now (i + field))) (base + 4 * get16 m.now (i + field)) m.now i }
 {
     let left = m.len() - i;
     if left < base {
@@ -97,7 +97,7 @@ fn most_of(command: Command) -> usize
 // Whether n requests stand behind REQ-NUM, and then the message ends.
 fn fields_ok(command: Command, m: &[u8], n: usize) -> bool
     requires { 22 ≤ length m.now }
-    ensures { result ≡ fieldsFrom command m.now 22 n }
+    ensures { result ≡ fields_from command m.now 22 n }
 {
     let mut i = REQUESTS_AT;
     let mut k: usize = 0;
@@ -117,7 +117,7 @@ fn fields_ok(command: Command, m: &[u8], n: usize) -> bool
 
 // The body test of a command with a list of requests.
 fn list_ok(command: Command, m: &[u8]) -> bool
-    ensures { result ≡ listOk command m.now }
+    ensures { result ≡ list_ok command m.now }
 {
     if m.len() < REQUESTS_AT {
         return false;
@@ -133,8 +133,8 @@ fn list_ok(command: Command, m: &[u8]) -> bool
 }
 
 // The body test.
-pub fn body_ok(task: Task, m: &[u8]) -> bool
-    ensures { result ≡ bodyOk task m.now }
+pub fn body_fits(task: Task, m: &[u8]) -> bool
+    ensures { result ≡ body_ok task m.now }
 {
     match task {
         Task::Requests(command) => list_ok(command, m),

@@ -2,7 +2,7 @@
 ghost use Rattle.std.specs.Prelude.{◌≡◌, [], ◌∷◌, ◌++◌, ◌+◌, ◌≤◌, ◌<◌, length};
 ghost use Rattle.octets.specs.Bytes.{splice, part};
 ghost use Rattle.octets.specs.Words.{elem};
-ghost use Rattle.message.specs.Written.{header, initBytes, replyHead, initOk};
+ghost use Rattle.message.specs.Written.{header, init_bytes, reply_head, init_ok};
 
 use crate::{HEADER, VERSION};
 
@@ -60,7 +60,7 @@ fn head(
 // Writes a session init to the front of out.
 pub fn put_init(out: &mut [u8], own: u32, peer: u32, start: u16)
     requires { 23 ≤ length out.old }
-    ensures { out.new ≡ splice out.old 0 (initBytes own peer start) }
+    ensures { out.new ≡ splice out.old 0 (init_bytes own peer start) }
 {
     let h = head(
         23,
@@ -79,7 +79,7 @@ pub fn put_init(out: &mut [u8], own: u32, peer: u32, start: u16)
 // Writes a reply before its n RESULTs to the front of out.
 pub fn put_reply(out: &mut [u8], own: u32, peer: u32, number: u32, next: u16, response: u8, n: u16)
     requires { 23 ≤ length out.old }
-    ensures { out.new ≡ splice out.old 0 (replyHead own peer number next response n) }
+    ensures { out.new ≡ splice out.old 0 (reply_head own peer number next response n) }
 {
     let size = 23 + (n as u32);
     let h = head(
@@ -113,7 +113,7 @@ fn has_version(m: &[u8], i: usize, n: usize) -> bool
 
 // Whether the body is that of a session init with the version in its list.
 pub fn init_ok(m: &[u8]) -> bool
-    ensures { result ≡ initOk m.now }
+    ensures { result ≡ init_ok m.now }
 {
     if m.len() <= HEADER {
         return false;

@@ -27,19 +27,19 @@ pub and_right : (a b : Bool) → (a && b) ≡ true → b ≡ true
 and_right true b p = p
 and_right false b p = clash false p refl
 
-pub and-false-left : (a b : Bool) → a ≡ false → (a && b) ≡ false
-and-false-left a b p = rw p
+pub and_false_left : (a b : Bool) → a ≡ false → (a && b) ≡ false
+and_false_left a b p = rw p
 
-pub and-false-right : (a b : Bool) → b ≡ false → (a && b) ≡ false
-and-false-right true b p = p
-and-false-right false b p = refl
+pub and_false_right : (a b : Bool) → b ≡ false → (a && b) ≡ false
+and_false_right true b p = p
+and_false_right false b p = refl
 
 -- a call that answers the test b, in `if !r`: where the branch is left, the test holds
 pub test-holds : (r : Bool) {b : Bool} → r ≡ b → not r ≡ false → b ≡ true
 test-holds r e h = sym e ∙ not-false r h
 
-pub test-fails : (r : Bool) {b : Bool} → r ≡ b → not r ≡ true → b ≡ false
-test-fails r e h = sym e ∙ not-true r h
+pub test_fails : (r : Bool) {b : Bool} → r ≡ b → not r ≡ true → b ≡ false
+test_fails r e h = sym e ∙ not-true r h
 
 -- ---- a number between two bounds
 
@@ -50,37 +50,37 @@ pub is-between : (low high n : ℕ) → low ≤ n → n ≤ high → between low
 is-between low high n p q = and_both (leb low n) (leb n high) (le-leb low n p) (le-leb n high q)
 
 pub under : (low high n : ℕ) → n < low → between low high n ≡ false
-under low high n h = and-false-left (leb low n) (leb n high) (lt-leb low n h)
+under low high n h = and_false_left (leb low n) (leb n high) (lt-leb low n h)
 
 pub over : (low high n : ℕ) → high < n → between low high n ≡ false
-over low high n h = and-false-right (leb low n) (leb n high) (lt-leb n high h)
+over low high n h = and_false_right (leb low n) (leb n high) (lt-leb n high h)
 
 -- ---- a test of every number below n
 
-pub allBelow-more : (i : ℕ) (p : ℕ → Bool) → all_below i p ≡ true → p i ≡ true → all_below (i + 1) p ≡ true
+pub all_below_more : (i : ℕ) (p : ℕ → Bool) → all_below i p ≡ true → p i ≡ true → all_below (i + 1) p ≡ true
 unfolding all_below
-allBelow-more i p h t = rw add-one (and_both _ _ h t)
+all_below_more i p h t = rw add-one (and_both _ _ h t)
 
-pub allBelow-fails : (n i : ℕ) (p : ℕ → Bool) → i < n → p i ≡ false → all_below n p ≡ false
+pub all_below_fails : (n i : ℕ) (p : ℕ → Bool) → i < n → p i ≡ false → all_below n p ≡ false
 unfolding all_below
-allBelow-fails zero i p l f = absurd (not-suc-le-zero l)
-allBelow-fails (suc n) i p l f =
-    ⊎_elim (λ (e : i ≡ n). and-false-right (all_below n p) (p n) (subst (λ (k : ℕ). p k ≡ false) e f))
-    (λ (h : i < n). and-false-left (all_below n p) (p n) (allBelow-fails n i p h f))
+all_below_fails zero i p l f = absurd (not-suc-le-zero l)
+all_below_fails (suc n) i p l f =
+    ⊎_elim (λ (e : i ≡ n). and_false_right (all_below n p) (p n) (subst (λ (k : ℕ). p k ≡ false) e f))
+    (λ (h : i < n). and_false_left (all_below n p) (p n) (all_below_fails n i p h f))
     (eq-or-lt_of_le (le_of_suc-le-suc l))
 
-pub allBelow-at : (n i : ℕ) (p : ℕ → Bool) → all_below n p ≡ true → i < n → p i ≡ true
+pub all_below-at : (n i : ℕ) (p : ℕ → Bool) → all_below n p ≡ true → i < n → p i ≡ true
 unfolding all_below
-allBelow-at zero i p h l = absurd (not-suc-le-zero l)
-allBelow-at (suc n) i p h l =
+all_below-at zero i p h l = absurd (not-suc-le-zero l)
+all_below-at (suc n) i p h l =
     ⊎_elim (λ (e : i ≡ n). subst (λ (k : ℕ). p k ≡ true) (sym e) (and_right (all_below n p) (p n) h))
-    (λ (b : i < n). allBelow-at n i p (and_left (all_below n p) (p n) h) b)
+    (λ (b : i < n). all_below-at n i p (and_left (all_below n p) (p n) h) b)
     (eq-or-lt_of_le (le_of_suc-le-suc l))
 
-pub allBelow-all : (n : ℕ) (p : ℕ → Bool) → ((i : ℕ) → i < n → p i ≡ true) → all_below n p ≡ true
+pub all_below-all : (n : ℕ) (p : ℕ → Bool) → ((i : ℕ) → i < n → p i ≡ true) → all_below n p ≡ true
 unfolding all_below
-allBelow-all zero p h = refl
-allBelow-all (suc n) p h = and_both (all_below n p) (p n) (allBelow-all n p (λ i l. h i (omega arith))) (h n (omega arith))
+all_below-all zero p h = refl
+all_below-all (suc n) p h = and_both (all_below n p) (p n) (all_below-all n p (λ i l. h i (omega arith))) (h n (omega arith))
 
 -- ---- two lists are the same
 

@@ -11,19 +11,19 @@ use lib.Pow.{pow-add, pow_mono, shr-shr, shr_lt}
 use lib.ListN.{length, get_or, take, drop, length-append}
 use lib.Seq.{take_at, drop_at}
 use Rattle.octets.specs.Bytes.{Bytes, get16, get32, be16, be32, number, bytes, part}
-use Rattle.octets.proofs.PartLaws.{part-cons, part_none, part-snoc}
+use Rattle.octets.proofs.PartLaws.{part-cons, part_none, part_snoc}
 
 -- ---- two bytes and four
 
-pub be16-of : (a b : ℕ) → a < 256 → b < 256 → be16 (a * 256 + b) ≡ a ∷ b ∷ []
-be16-of a b p q =
+pub be16_of : (a b : ℕ) → a < 256 → b < 256 → be16 (a * 256 + b) ≡ a ∷ b ∷ []
+be16_of a b p q =
     let e : (a * 256 + b) / 256 % 256 ≡ a = omega arith in
     let f : (a * 256 + b) % 256 ≡ b = omega arith in
     rw (e, f)
 
-pub be32-of : (a b c d : ℕ) → a < 256 → b < 256 → c < 256 → d < 256
+pub be32_of : (a b c d : ℕ) → a < 256 → b < 256 → c < 256 → d < 256
     → be32 (a * 16777216 + b * 65536 + c * 256 + d) ≡ a ∷ b ∷ c ∷ d ∷ []
-be32-of a b c d p q r t =
+be32_of a b c d p q r t =
     let e : (a * 16777216 + b * 65536 + c * 256 + d) / 16777216 % 256 ≡ a = omega arith in
     let f : (a * 16777216 + b * 65536 + c * 256 + d) / 65536 % 256 ≡ b = omega arith in
     let g : (a * 16777216 + b * 65536 + c * 256 + d) / 256 % 256 ≡ c = omega arith in
@@ -35,7 +35,7 @@ part-be16 s i b h =
     let h0 : i < length s = omega arith in
     let h1 : i + 1 < length s = omega arith in
     part-cons s i 1 h0 ∙ ap (λ (r : List ℕ). get_or s i 0 ∷ r) (part-cons s (i + 1) 0 h1 ∙ ap (λ (r : List ℕ). get_or s (i + 1) 0 ∷ r) (part_none s _))
-    ∙ sym (be16-of (get_or s i 0) (get_or s (i + 1) 0) (b i) (b (i + 1)))
+    ∙ sym (be16_of (get_or s i 0) (get_or s (i + 1) 0) (b i) (b (i + 1)))
 
 pub part-be32 : (s : List ℕ) (i : ℕ) → Bytes s → i + 4 ≤ length s → part s i 4 ≡ be32 (get32 s i)
 part-be32 s i b h =
@@ -50,7 +50,7 @@ part-be32 s i b h =
     (rw (add_assoc i 2 1) at (part-cons s (i + 2) 1 h2)
     ∙ ap (λ (r : List ℕ). get_or s (i + 2) 0 ∷ r)
     (part-cons s (i + 3) 0 h3 ∙ ap (λ (r : List ℕ). get_or s (i + 3) 0 ∷ r) (part_none s (i + 3 + 1)))))
-    ∙ sym (be32-of (get_or s i 0) (get_or s (i + 1) 0) (get_or s (i + 2) 0) (get_or s (i + 3) 0) (b i) (b (i + 1)) (b (i + 2)) (b (i + 3)))
+    ∙ sym (be32_of (get_or s i 0) (get_or s (i + 1) 0) (get_or s (i + 2) 0) (get_or s (i + 3) 0) (b i) (b (i + 1)) (b (i + 2)) (b (i + 3)))
 
 -- ---- n bytes
 
@@ -78,9 +78,9 @@ length-bytes zero v = refl
 length-bytes (suc n) v = omega (arith, length-append (bytes n (v / 256)) (v % 256 ∷ []), length-bytes n (v / 256))
 
 -- the upper k + 1 of the 8 bytes of a word are the upper k, and one more
-pub bytes-more : (k v : ℕ) → k < 8 → bytes (k + 1) (v / 2 ^ (64 - 8 * (k + 1))) ≡ bytes k (v / 2 ^ (64 - 8 * k)) ++ (v / 2 ^ (56 - 8 * k) % 256 ∷ [])
+pub bytes_more : (k v : ℕ) → k < 8 → bytes (k + 1) (v / 2 ^ (64 - 8 * (k + 1))) ≡ bytes k (v / 2 ^ (64 - 8 * k)) ++ (v / 2 ^ (56 - 8 * k) % 256 ∷ [])
 unfolding bytes
-bytes-more k v h =
+bytes_more k v h =
     let d : 64 - 8 * (k + 1) ≡ 56 - 8 * k = omega arith in
     let e : 56 - 8 * k + 8 ≡ 64 - 8 * k = omega arith in
     rw (d, add-one)
@@ -96,7 +96,7 @@ part_bytes (suc n) s i b h =
     let m : x % 256 ≡ x = omega arith in
     let q : (number n s i * 256 + x) / 256 ≡ number n s i = omega arith in
     let r : (number n s i * 256 + x) % 256 ≡ x = omega arith in
-    ap (part s i) (sym (add-one n)) ∙ part-snoc s i n (omega arith) ∙ ap (λ (l : List ℕ). l ++ (x ∷ [])) (part_bytes n s i b (omega arith))
+    ap (part s i) (sym (add-one n)) ∙ part_snoc s i n (omega arith) ∙ ap (λ (l : List ℕ). l ++ (x ∷ [])) (part_bytes n s i b (omega arith))
     ∙ rw (m, q, r)
 
 -- a number of n bytes is that of its bytes alone

@@ -11,7 +11,7 @@ use lib.ListN.{length, get_or, take, drop, replicate, length-take, length-drop, 
 use lib.Seq.{drop-cons, take-add, drop-drop, take_at, drop_at, take_all, get_or-take, get_or-drop}
 use lib.Dec.{eqb}
 use borrow.Author.Tests.{eqb-true, eq-eqb, ne_eqb}
-use Rattle.octets.specs.Bytes.{Bytes, part, allZero}
+use Rattle.octets.specs.Bytes.{Bytes, part, all_zero}
 use Rattle.octets.proofs.BoolLaws.{and_left, and_right}
 
 pub part_none : (s : List ℕ) (i : ℕ) → part s i 0 ≡ []
@@ -58,53 +58,53 @@ unfolding part
 part-add s i n m = take-add n m (drop i s) ∙ ap (λ (r : List ℕ). take n (drop i s) ++ take m r) (drop-drop n i s)
 
 -- what stands before the last element, and it
-pub part-snoc : (s : List ℕ) (i n : ℕ) → i + n < length s → part s i (n + 1) ≡ part s i n ++ (get_or s (i + n) 0 ∷ [])
-part-snoc s i n h =
+pub part_snoc : (s : List ℕ) (i n : ℕ) → i + n < length s → part s i (n + 1) ≡ part s i n ++ (get_or s (i + n) 0 ∷ [])
+part_snoc s i n h =
     part-add s i n 1
     ∙ ap (λ (x : List ℕ). part s i n ++ x) (part-cons s (i + n) 0 h ∙ ap (λ (x : List ℕ). get_or s (i + n) 0 ∷ x) (part_none s (i + n + 1)))
 
 -- of a list that is cut at the part's ends
-pub part-mid : (a b c : List ℕ) (i n : ℕ) → length a ≡ i → length b ≡ n → part (a ++ (b ++ c)) i n ≡ b
+pub part_mid : (a b c : List ℕ) (i n : ℕ) → length a ≡ i → length b ≡ n → part (a ++ (b ++ c)) i n ≡ b
 unfolding part
-part-mid a b c i n e f = ap (λ (l : List ℕ). take n l) (drop_at a (b ++ c) i e) ∙ take_at b c n f
+part_mid a b c i n e f = ap (λ (l : List ℕ). take n l) (drop_at a (b ++ c) i e) ∙ take_at b c n f
 
 -- ---- zeros
 
-pub allZero-replicate : (n : ℕ) → allZero (replicate n 0) ≡ true
-unfolding allZero
-allZero-replicate zero = refl
-allZero-replicate (suc n) = allZero-replicate n
+pub all_zero-replicate : (n : ℕ) → all_zero (replicate n 0) ≡ true
+unfolding all_zero
+all_zero-replicate zero = refl
+all_zero-replicate (suc n) = all_zero-replicate n
 
-pub zeros_of : (l : List ℕ) → allZero l ≡ true → l ≡ replicate (length l) 0
-unfolding allZero
+pub zeros_of : (l : List ℕ) → all_zero l ≡ true → l ≡ replicate (length l) 0
+unfolding all_zero
 zeros_of [] h = refl
 zeros_of (x ∷ xs) h =
-    let e : x ≡ 0 = eqb-true x 0 (and_left (eqb x 0) (allZero xs) h) in
-    let r : xs ≡ replicate (length xs) 0 = zeros_of xs (and_right (eqb x 0) (allZero xs) h) in
+    let e : x ≡ 0 = eqb-true x 0 (and_left (eqb x 0) (all_zero xs) h) in
+    let r : xs ≡ replicate (length xs) 0 = zeros_of xs (and_right (eqb x 0) (all_zero xs) h) in
     ap (λ (k : ℕ). k ∷ xs) e ∙ ap (λ (k : List ℕ). 0 ∷ k) r
 
-pub allZero-part : (s : List ℕ) (i n : ℕ) → i + n ≤ length s → allZero (part s i n) ≡ true → part s i n ≡ replicate n 0
-allZero-part s i n h z = zeros_of (part s i n) z ∙ ap (λ (k : ℕ). replicate k 0) (part_length s i n h)
+pub all_zero-part : (s : List ℕ) (i n : ℕ) → i + n ≤ length s → all_zero (part s i n) ≡ true → part s i n ≡ replicate n 0
+all_zero-part s i n h z = zeros_of (part s i n) z ∙ ap (λ (k : ℕ). replicate k 0) (part_length s i n h)
 
 -- a turn of the loop that looks for a byte that is not zero
 module _ (s : List ℕ) (i n k : ℕ) where
-  allZero-open : k < n → i + n ≤ length s → allZero (part s (i + k) (n - k)) ≡ (eqb (get_or s (i + k) 0) 0 && allZero (part s (i + (k + 1)) (n - (k + 1))))
-  unfolding allZero
-  allZero-open l h =
+  all_zero_open : k < n → i + n ≤ length s → all_zero (part s (i + k) (n - k)) ≡ (eqb (get_or s (i + k) 0) 0 && all_zero (part s (i + (k + 1)) (n - (k + 1))))
+  unfolding all_zero
+  all_zero_open l h =
       let e : n - k ≡ n - (k + 1) + 1 = omega arith in
       let b : i + k < length s = omega arith in
-      ap (λ (m : ℕ). allZero (part s (i + k) m)) e
-      ∙ ap allZero (part-cons s (i + k) (n - (k + 1)) b)
-      ∙ ap (λ (x : ℕ). eqb (get_or s (i + k) 0) 0 && allZero (part s x (n - (k + 1)))) (add_assoc i k 1)
+      ap (λ (m : ℕ). all_zero (part s (i + k) m)) e
+      ∙ ap all_zero (part-cons s (i + k) (n - (k + 1)) b)
+      ∙ ap (λ (x : ℕ). eqb (get_or s (i + k) 0) 0 && all_zero (part s x (n - (k + 1)))) (add_assoc i k 1)
 
-  pub allZero-turn : k < n → i + n ≤ length s → get_or s (i + k) 0 ≡ 0 → allZero (part s (i + k) (n - k)) ≡ allZero (part s (i + (k + 1)) (n - (k + 1)))
-  allZero-turn l h e =
-      allZero-open l h ∙ ap (λ (x : Bool). x && allZero (part s (i + (k + 1)) (n - (k + 1)))) (eq-eqb (get_or s (i + k) 0) 0 e)
+  pub all_zero_turn : k < n → i + n ≤ length s → get_or s (i + k) 0 ≡ 0 → all_zero (part s (i + k) (n - k)) ≡ all_zero (part s (i + (k + 1)) (n - (k + 1)))
+  all_zero_turn l h e =
+      all_zero_open l h ∙ ap (λ (x : Bool). x && all_zero (part s (i + (k + 1)) (n - (k + 1)))) (eq-eqb (get_or s (i + k) 0) 0 e)
 
-  pub allZero-fails : k < n → i + n ≤ length s → (get_or s (i + k) 0 ≡ 0 → ⊥) → allZero (part s (i + k) (n - k)) ≡ false
-  allZero-fails l h e =
-      allZero-open l h ∙ ap (λ (x : Bool). x && allZero (part s (i + (k + 1)) (n - (k + 1)))) (ne_eqb (get_or s (i + k) 0) 0 e)
+  pub all_zero_fails : k < n → i + n ≤ length s → (get_or s (i + k) 0 ≡ 0 → ⊥) → all_zero (part s (i + k) (n - k)) ≡ false
+  all_zero_fails l h e =
+      all_zero_open l h ∙ ap (λ (x : Bool). x && all_zero (part s (i + (k + 1)) (n - (k + 1)))) (ne_eqb (get_or s (i + k) 0) 0 e)
 
-  pub allZero-end : n ≤ k → allZero (part s (i + k) (n - k)) ≡ true
-  unfolding allZero part
-  allZero-end h = let e : n - k ≡ 0 = omega arith in ap (λ (m : ℕ). allZero (part s (i + k) m)) e
+  pub all_zero-end : n ≤ k → all_zero (part s (i + k) (n - k)) ≡ true
+  unfolding all_zero part
+  all_zero-end h = let e : n - k ≡ 0 = omega arith in ap (λ (m : ℕ). all_zero (part s (i + k) m)) e

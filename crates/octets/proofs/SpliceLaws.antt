@@ -9,8 +9,8 @@ use native.Mathlib.Omega.{arith}
 use lib.ListN.{length, get_or, set, take, drop, replicate, length-append, length-drop, take-append-drop, length-replicate, replicate-append-replicate, drop_of_length-le, get_or-append}
 use lib.Seq.{set_at, set_split, take_at, drop_at, drop-drop, length-take-le, take-suc, get_or-take, get_or-drop}
 use Rattle.octets.specs.Bytes.{part, splice, closed, bytes}
-use Rattle.octets.proofs.PartLaws.{part-add, part-cons, part-snoc, part_length, part-mid}
-use Rattle.octets.proofs.NumberLaws.{length-bytes, bytes-more}
+use Rattle.octets.proofs.PartLaws.{part-add, part-cons, part_snoc, part_length, part_mid}
+use Rattle.octets.proofs.NumberLaws.{length-bytes, bytes_more}
 
 pub splice-none : (d : List ℕ) (i : ℕ) → splice d i [] ≡ d
 unfolding splice
@@ -88,9 +88,9 @@ unfolding splice
 set-splice d i x h = set_split d i x h ∙ ap (λ (k : ℕ). take i d ++ x ∷ drop k d) (sym (add-one i))
 
 -- a store just behind the splice, and just before it
-pub splice-snoc : (d : List ℕ) (i : ℕ) (v : List ℕ) (k x : ℕ) → length v ≡ k → i + k < length d
+pub splice_snoc : (d : List ℕ) (i : ℕ) (v : List ℕ) (k x : ℕ) → length v ≡ k → i + k < length d
     → set (splice d i v) (i + k) x ≡ splice d i (v ++ (x ∷ []))
-splice-snoc d i v k x e h =
+splice_snoc d i v k x e h =
     let l : i + length v ≤ length d = omega arith in
     let b : i + k < length (splice d i v) = omega (arith, splice-length d i v l) in
     let b2 : i + k + 1 ≤ length d = omega arith in
@@ -111,24 +111,24 @@ splice-cons d i v x h =
 
 -- ---- of a list that is cut at the ends of what is written
 
-pub splice-mid : (a x c w : List ℕ) (i : ℕ) → length a ≡ i → length x ≡ length w → splice (a ++ (x ++ c)) i w ≡ a ++ (w ++ c)
+pub splice_mid : (a x c w : List ℕ) (i : ℕ) → length a ≡ i → length x ≡ length w → splice (a ++ (x ++ c)) i w ≡ a ++ (w ++ c)
 unfolding splice
-splice-mid a x c w i e f =
+splice_mid a x c w i e f =
     ap (λ (l : List ℕ). l ++ (w ++ drop (i + length w) (a ++ (x ++ c)))) (take_at a (x ++ c) i e)
     ∙ ap (λ (l : List ℕ). a ++ (w ++ drop (i + length w) l)) (sym (append_assoc a x c))
     ∙ ap (λ (l : List ℕ). a ++ (w ++ l)) (drop_at (a ++ x) c (i + length w) (omega (arith, length-append a x)))
 
-pub closed-mid : (a g b c : List ℕ) (i gap n : ℕ) → length a ≡ i → length g ≡ gap → length b ≡ n
+pub closed_mid : (a g b c : List ℕ) (i gap n : ℕ) → length a ≡ i → length g ≡ gap → length b ≡ n
     → closed (a ++ (g ++ (b ++ c))) i gap n ≡ a ++ (b ++ (replicate gap 0 ++ c))
 unfolding closed
-closed-mid a g b c i gap n ea eg eb =
+closed_mid a g b c i gap n ea eg eb =
     let s : List ℕ = a ++ (g ++ (b ++ c)) in
     let p : part s (i + gap) n ≡ b =
-    ap (λ (l : List ℕ). part l (i + gap) n) (sym (append_assoc a g (b ++ c))) ∙ part-mid (a ++ g) b c (i + gap) n (omega (arith, length-append a g)) eb in
+    ap (λ (l : List ℕ). part l (i + gap) n) (sym (append_assoc a g (b ++ c))) ∙ part_mid (a ++ g) b c (i + gap) n (omega (arith, length-append a g)) eb in
     let w : List ℕ = b ++ replicate gap 0 in
     ap (λ (l : List ℕ). splice s i (l ++ replicate gap 0)) p
     ∙ ap (λ (l : List ℕ). splice (a ++ l) i w) (sym (append_assoc g b c))
-    ∙ splice-mid a (g ++ b) c w i ea (omega (arith, length-append g b, length-append b (replicate gap 0), length-replicate {A = ℕ} gap 0))
+    ∙ splice_mid a (g ++ b) c w i ea (omega (arith, length-append g b, length-append b (replicate gap 0), length-replicate {A = ℕ} gap 0))
     ∙ ap (λ (l : List ℕ). a ++ l) (append_assoc b (replicate gap 0) c)
 
 -- two splices, the one in front written last
@@ -141,41 +141,41 @@ splice-head d i v w k e h =
     let cut : take (i + k) d ≡ take i d ++ part d i k = part-add d 0 i k ∙ ap (λ (n : ℕ). take i d ++ part d n k) (zero-add i) in
     ap (λ (x : List ℕ). splice (x ++ t) i v) cut
     ∙ ap (λ (x : List ℕ). splice x i v) (append_assoc (take i d) (part d i k) t)
-    ∙ splice-mid (take i d) (part d i k) t v i l (part_length d i k h ∙ sym e)
+    ∙ splice_mid (take i d) (part d i k) t v i l (part_length d i k h ∙ sym e)
     ∙ ap (λ (x : List ℕ). take i d ++ x) (sym (append_assoc v w (drop (i + k + length w) d)) ∙ ap (λ (n : ℕ). (v ++ w) ++ drop n d) z)
 
 -- ---- a turn of each loop: d is the list at the start, s the list now
 
 -- a loop that writes v, of k bytes so far, behind index i
-pub splice-turn : (d : List ℕ) (i k x : ℕ) (s v w : List ℕ) → i + k < length d → length v ≡ k → s ≡ splice d i v → v ++ (x ∷ []) ≡ w
+pub splice_turn : (d : List ℕ) (i k x : ℕ) (s v w : List ℕ) → i + k < length d → length v ≡ k → s ≡ splice d i v → v ++ (x ∷ []) ≡ w
     → set s (i + k) x ≡ splice d i w
-splice-turn d i k x s v w h l e f =
-    ap (λ (z : List ℕ). set z (i + k) x) e ∙ splice-snoc d i v k x l h ∙ ap (λ (z : List ℕ). splice d i z) f
+splice_turn d i k x s v w h l e f =
+    ap (λ (z : List ℕ). set z (i + k) x) e ∙ splice_snoc d i v k x l h ∙ ap (λ (z : List ℕ). splice d i z) f
 
-pub clear-turn : (d : List ℕ) (i k : ℕ) (s : List ℕ) → i + k < length d → s ≡ splice d i (replicate k 0)
+pub clear_turn : (d : List ℕ) (i k : ℕ) (s : List ℕ) → i + k < length d → s ≡ splice d i (replicate k 0)
     → set s (i + k) 0 ≡ splice d i (replicate (k + 1) 0)
-clear-turn d i k s h e = splice-turn d i k 0 s (replicate k 0) _ h (length-replicate {A = ℕ} k 0) e (replicate-append-replicate {A = ℕ} k 1 0)
+clear_turn d i k s h e = splice_turn d i k 0 s (replicate k 0) _ h (length-replicate {A = ℕ} k 0) e (replicate-append-replicate {A = ℕ} k 1 0)
 
-pub copy-turn : (d : List ℕ) (i : ℕ) (src : List ℕ) (at k : ℕ) (s : List ℕ) → i + k < length d → at + k < length src → s ≡ splice d i (part src at k)
+pub copy_turn : (d : List ℕ) (i : ℕ) (src : List ℕ) (at k : ℕ) (s : List ℕ) → i + k < length d → at + k < length src → s ≡ splice d i (part src at k)
     → set s (i + k) (get_or src (at + k) 0) ≡ splice d i (part src at (k + 1))
-copy-turn d i src at k s h l e =
-    splice-turn d i k (get_or src (at + k) 0) s (part src at k) _ h (part_length src at k (omega arith)) e (sym (part-snoc src at k l))
+copy_turn d i src at k s h l e =
+    splice_turn d i k (get_or src (at + k) 0) s (part src at k) _ h (part_length src at k (omega arith)) e (sym (part_snoc src at k l))
 
-pub put64-turn : (d : List ℕ) (i v k : ℕ) (s : List ℕ) → i + k < length d → k < 8 → s ≡ splice d i (bytes k (v / 2 ^ (64 - 8 * k)))
+pub put64_turn : (d : List ℕ) (i v k : ℕ) (s : List ℕ) → i + k < length d → k < 8 → s ≡ splice d i (bytes k (v / 2 ^ (64 - 8 * k)))
     → set s (i + k) (v / 2 ^ (56 - 8 * k) % 256) ≡ splice d i (bytes (k + 1) (v / 2 ^ (64 - 8 * (k + 1))))
-put64-turn d i v k s h l e =
-    splice-turn d i k (v / 2 ^ (56 - 8 * k) % 256) s (bytes k (v / 2 ^ (64 - 8 * k))) _ h (length-bytes k _) e (sym (bytes-more k v l))
+put64_turn d i v k s h l e =
+    splice_turn d i k (v / 2 ^ (56 - 8 * k) % 256) s (bytes k (v / 2 ^ (64 - 8 * k))) _ h (length-bytes k _) e (sym (bytes_more k v l))
 
 -- bytes moved down are read past what is written
-pub move-turn : (d : List ℕ) (i gap k : ℕ) (s : List ℕ) → i + gap + k < length d → s ≡ splice d i (part d (i + gap) k)
+pub move_turn : (d : List ℕ) (i gap k : ℕ) (s : List ℕ) → i + gap + k < length d → s ≡ splice d i (part d (i + gap) k)
     → set s (i + k) (get_or s (i + gap + k) 0) ≡ splice d i (part d (i + gap) (k + 1))
-move-turn d i gap k s h e =
+move_turn d i gap k s h e =
     let lv : length (part d (i + gap) k) ≡ k = part_length d (i + gap) k (omega arith) in
     let j : i + gap + k ≡ i + k + gap = omega arith in
     let r : get_or s (i + gap + k) 0 ≡ get_or d (i + gap + k) 0 =
     ap (λ (x : List ℕ). get_or x (i + gap + k) 0) e ∙ ap (λ (x : ℕ). get_or (splice d i (part d (i + gap) k)) x 0) j ∙ splice-past d i (part d (i + gap) k) k gap lv (omega arith)
     ∙ ap (λ (x : ℕ). get_or d x 0) (sym j) in
-    ap (λ (x : ℕ). set s (i + k) x) r ∙ copy-turn d i d (i + gap) k s (omega arith) h e
+    ap (λ (x : ℕ). set s (i + k) x) r ∙ copy_turn d i d (i + gap) k s (omega arith) h e
 
 pub closed_is : (d : List ℕ) (i gap n : ℕ) (s t : List ℕ) → i + gap + n ≤ length d → s ≡ splice d i (part d (i + gap) n) → t ≡ splice s (i + n) (replicate gap 0)
     → t ≡ closed d i gap n
@@ -202,6 +202,6 @@ open_turn d i gap n k s p l h e =
     ∙ splice-cons d (i + gap + j) v (get_or d (i + j) 0) (omega arith)
     ∙ ap (λ (x : List ℕ). splice d (i + gap + j) x) (sym w)
 
-pub open-start : (d : List ℕ) (i gap n : ℕ) → d ≡ splice d (i + gap + n) (part d (i + n) (n - n))
+pub open_start : (d : List ℕ) (i gap n : ℕ) → d ≡ splice d (i + gap + n) (part d (i + n) (n - n))
 unfolding part
-open-start d i gap n = let e : n - n ≡ 0 = omega arith in sym (ap (λ (x : ℕ). splice d (i + gap + n) (part d (i + n) x)) e ∙ splice-none d (i + gap + n))
+open_start d i gap n = let e : n - n ≡ 0 = omega arith in sym (ap (λ (x : ℕ). splice d (i + gap + n) (part d (i + n) x)) e ∙ splice-none d (i + gap + n))

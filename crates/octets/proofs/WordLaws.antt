@@ -32,8 +32,8 @@ pub get32-fits : (s : List ℕ) → Bytes s → (i : ℕ) → get32 s i < 429496
 get32-fits s b i = omega (arith, b i, b (i + 1), b (i + 2), b (i + 3))
 
 -- two bytes hold what is left of a number below 65,536
-pub be16-mod : (v : ℕ) → be16 (v % 65536) ≡ be16 v
-be16-mod v =
+pub be16_mod : (v : ℕ) → be16 (v % 65536) ≡ be16 v
+be16_mod v =
     let e : v % 65536 / 256 % 256 ≡ v / 256 % 256 = omega arith in
     let f : v % 65536 % 256 ≡ v % 256 = omega arith in
     rw (e, f)
@@ -53,8 +53,8 @@ digit : (x : ℕ) → x ≡ x / 256 * 256 + x % 256
 digit x = omega arith
 
 -- a number below 2 ^ 32 is the sum of its four bytes
-sum-of-bytes : (v : ℕ) → v < 4294967296 → v / 16777216 % 256 * 16777216 + v / 65536 % 256 * 65536 + v / 256 % 256 * 256 + v % 256 ≡ v
-sum-of-bytes v h =
+sum_of_bytes : (v : ℕ) → v < 4294967296 → v / 16777216 % 256 * 16777216 + v / 65536 % 256 * 65536 + v / 256 % 256 * 256 + v % 256 ≡ v
+sum_of_bytes v h =
     let two : v / 65536 ≡ v / 256 / 256 = omega arith in
     let three : v / 16777216 ≡ v / 65536 / 256 = omega arith in
     let top : v / 16777216 % 256 ≡ v / 16777216 = omega arith in
@@ -73,7 +73,7 @@ get32-be32 a c v i e h =
     let p1 : get_or s (i + 1) 0 ≡ v / 65536 % 256 = past a (be32 v ++ c) i 1 e in
     let p2 : get_or s (i + 2) 0 ≡ v / 256 % 256 = past a (be32 v ++ c) i 2 e in
     let p3 : get_or s (i + 3) 0 ≡ v % 256 = past a (be32 v ++ c) i 3 e in
-    rw (p0, p1, p2, p3) (sum-of-bytes v h)
+    rw (p0, p1, p2, p3) (sum_of_bytes v h)
 
 -- ---- lists of numbers
 
@@ -120,15 +120,15 @@ numbers-words (x ∷ xs) a c i e h =
 
 -- a turn of the loop that looks for x among n numbers, the first k passed and the next at index i
 module _ (x : ℕ) (s : List ℕ) (i n k : ℕ) where
-  elem-open : k < n → elem x (numbers s i (n - k)) ≡ (eqb (get32 s i) x || elem x (numbers s (i + 4) (n - (k + 1))))
+  elem_open : k < n → elem x (numbers s i (n - k)) ≡ (eqb (get32 s i) x || elem x (numbers s (i + 4) (n - (k + 1))))
   unfolding elem numbers
-  elem-open h = let e : n - k ≡ suc (n - (k + 1)) = omega arith in ap (λ (y : ℕ). elem x (numbers s i y)) e
+  elem_open h = let e : n - k ≡ suc (n - (k + 1)) = omega arith in ap (λ (y : ℕ). elem x (numbers s i y)) e
 
-  pub elem-turn : k < n → (get32 s i ≡ x → ⊥) → elem x (numbers s i (n - k)) ≡ elem x (numbers s (i + 4) (n - (k + 1)))
-  elem-turn h f = elem-open h ∙ ap (λ (y : Bool). y || elem x (numbers s (i + 4) (n - (k + 1)))) (ne_eqb (get32 s i) x f)
+  pub elem_turn : k < n → (get32 s i ≡ x → ⊥) → elem x (numbers s i (n - k)) ≡ elem x (numbers s (i + 4) (n - (k + 1)))
+  elem_turn h f = elem_open h ∙ ap (λ (y : Bool). y || elem x (numbers s (i + 4) (n - (k + 1)))) (ne_eqb (get32 s i) x f)
 
   pub elem-here : k < n → get32 s i ≡ x → elem x (numbers s i (n - k)) ≡ true
-  elem-here h f = elem-open h ∙ ap (λ (y : Bool). y || elem x (numbers s (i + 4) (n - (k + 1)))) (eq-eqb (get32 s i) x f)
+  elem-here h f = elem_open h ∙ ap (λ (y : Bool). y || elem x (numbers s (i + 4) (n - (k + 1)))) (eq-eqb (get32 s i) x f)
 
   pub elem_end : n ≤ k → elem x (numbers s i (n - k)) ≡ false
   unfolding elem numbers

@@ -1,6 +1,6 @@
 // Leaf operations on lent bytes. Every other crate reads and writes bytes through these.
 ghost use Rattle.std.specs.Prelude.{◌≡◌, ◌+◌, ◌≤◌, ◌<◌, length, replicate};
-ghost use Rattle.octets.specs.Bytes.{between as isBetween, get16, get32, number, be16, be32, bytes, part, splice, closed, opened, allZero};
+ghost use Rattle.octets.specs.Bytes.{between as isBetween, get16, get32, number, be16, be32, bytes, part, splice, closed, opened, all_zero};
 
 // ---- numbers in a range
 
@@ -151,7 +151,7 @@ pub fn open_gap(s: &mut [u8], i: usize, gap: usize, n: usize)
 // Whether the n bytes from index i are zero. All are looked at: without a way out of the loop many are compared at once.
 pub fn is_clear(s: &[u8], i: usize, n: usize) -> bool
     requires { i + n ≤ length s.now }
-    ensures { result ≡ allZero (part s.now i n) }
+    ensures { result ≡ all_zero (part s.now i n) }
 {
     let mut clear = true;
     let mut k: usize = 0;

@@ -1,6 +1,6 @@
 // The periods of a store's keys: reads a store from standard input, and writes a line for each key, without its KMAC.
 ghost use Rattle.std.specs.Prelude.{◌≡◌, true};
-ghost use Rattle.runs.specs.Alike.{isSound};
+ghost use Rattle.runs.specs.Alike.{is_sound};
 
 use libc::{STDIN_FILENO, STDOUT_FILENO};
 use records::{Record, is_held, record_at};
@@ -31,7 +31,7 @@ fn line(r: Record) {
 }
 
 fn lines(s: &[u8])
-    requires { isSound s.now ≡ true }
+    requires { is_sound s.now ≡ true }
 {
     let n = number_at(s, KEY_COUNT);
     let mut i = 0;

@@ -1,9 +1,9 @@
 // The records of a store as numbers. No part of a KMAC is among them, and what is shown is made of them alone.
 ghost use Rattle.std.specs.Prelude.{◌≡◌, ◌+◌, ◌*◌, ◌≤◌, ◌<◌, length};
 ghost use Rattle.octets.specs.Bytes.{get16};
-ghost use Rattle.store.specs.Layout.{recordAt};
-ghost use Rattle.runs.specs.Alike.{isSound};
-ghost use Rattle.records.specs.Records.{recordOf, peerOf};
+ghost use Rattle.store.specs.Layout.{record_at};
+ghost use Rattle.runs.specs.Alike.{is_sound};
+ghost use Rattle.records.specs.Records.{record_of, peer_of};
 
 use octets::get32_at;
 use store::editions::edition_of;
@@ -27,7 +27,7 @@ pub struct Record {
 
 // Whether the store has the length of an edition and is sound in it.
 pub fn is_held(s: &[u8]) -> bool
-    ensures { result ≡ isSound s.now }
+    ensures { result ≡ is_sound s.now }
 {
     match edition_of(s.len()) {
         Edition::Known(lim) => is_sound(s, lim),
@@ -37,8 +37,8 @@ pub fn is_held(s: &[u8]) -> bool
 
 // The record of index i.
 pub fn record_at(s: &[u8], i: usize) -> Record
-    requires { (i < 65536) × (recordAt i + 44 ≤ length s.now) }
-    ensures { result ≡ recordOf s.now i }
+    requires { (i < 65536) × (record_at i + 44 ≤ length s.now) }
+    ensures { result ≡ record_of s.now i }
 {
     let at = KEYS_AT + RECORD * i;
     Record {
@@ -54,7 +54,7 @@ pub fn record_at(s: &[u8], i: usize) -> Record
 // The peer of index j, behind the offset of peers that the header has.
 pub fn peer_at(s: &[u8], j: usize) -> u32
     requires { (12 ≤ length s.now) × (j < 65536) × (get16 s.now 8 + 4 * j + 4 ≤ length s.now) }
-    ensures { result ≡ peerOf s.now j }
+    ensures { result ≡ peer_of s.now j }
 {
     let at = number_at(s, PEERS_OFFSET);
     get32_at(s, at + PEER * j)

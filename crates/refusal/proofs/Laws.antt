@@ -6,7 +6,7 @@ use mathlib.Core.Bool.{Bool, true, false}
 use mathlib.Core.Logic.{◌⊎◌, inl, inr}
 use Prim.Native.Nat.{ℕ, zero, suc}
 use native.Mathlib.Omega.{arith}
-use Rattle.refusal.specs.House.{houseNumber, Answer, house, gives, asks, unlessRefused}
+use Rattle.refusal.specs.House.{house_number, Answer, house, gives, asks, unless_refused}
 use Rattle.refusal.specs.declared.Refusal.{Refusal}
 use Rattle.refusal.specs.declared.Refusal.TheVariants.{StoreLength, OutputLength, SessionClosed, MessageShort, NoSessionInit, SameIdentity, UnitLength, MacDiffers, UnitContents, DataLength, NoKey, StoreUnsound, KeyLength, NoRoom}
 
@@ -26,7 +26,7 @@ named =
     at KeyLength
     (StoreLength ∷ OutputLength ∷ SessionClosed ∷ MessageShort ∷ NoSessionInit ∷ SameIdentity ∷ UnitLength ∷ MacDiffers ∷ UnitContents ∷ DataLength ∷ NoKey ∷ StoreUnsound ∷ KeyLength ∷ NoRoom ∷ [])
 
-pub named_back : (h : Refusal) → named (houseNumber h) ≡ h
+pub named_back : (h : Refusal) → named (house_number h) ≡ h
 unfolding named at
 named_back StoreLength = refl
 named_back OutputLength = refl
@@ -43,8 +43,8 @@ named_back StoreUnsound = refl
 named_back KeyLength = refl
 named_back NoRoom = refl
 
-pub one_number : (g h : Refusal) → houseNumber g ≡ houseNumber h → g ≡ h
-one_number = one_each houseNumber named named_back
+pub one_number : (g h : Refusal) → house_number g ≡ house_number h → g ≡ h
+one_number = one_each house_number named named_back
 
 -- ---- tests in a row
 
@@ -72,8 +72,8 @@ not-both m n e = let z : ◌≡◌ {A = ℕ} 0 1 = cc in absurd (omega arith)
 -- ---- what a lent buffer holds then
 
 -- where a call answers, the old bytes do not count
-pub buffer-made : {a : Answer} (made none old key : List ℕ) → gives 0 ≡ a → key ≡ unlessRefused a made none → key ≡ unlessRefused a made old
-buffer-made made none old key e k = k ∙ ap (λ (x : Answer). unlessRefused x made none) (sym e) ∙ ap (λ (x : Answer). unlessRefused x made old) e
+pub buffer-made : {a : Answer} (made none old key : List ℕ) → gives 0 ≡ a → key ≡ unless_refused a made none → key ≡ unless_refused a made old
+buffer-made made none old key e k = k ∙ ap (λ (x : Answer). unless_refused x made none) (sym e) ∙ ap (λ (x : Answer). unless_refused x made old) e
 
-pub buffer-kept : {a : Answer} (n : ℕ) (made old : List ℕ) → house n ≡ a → old ≡ unlessRefused a made old
-buffer-kept n made old e = ap (λ (x : Answer). unlessRefused x made old) e
+pub buffer-kept : {a : Answer} (n : ℕ) (made old : List ℕ) → house n ≡ a → old ≡ unless_refused a made old
+buffer-kept n made old e = ap (λ (x : Answer). unless_refused x made old) e

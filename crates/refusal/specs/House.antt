@@ -4,21 +4,21 @@ use Rattle.std.specs.Prelude.{Bool, true, false, List, ℕ}
 use Rattle.refusal.specs.declared.Refusal.{Refusal}
 use Rattle.refusal.specs.declared.Refusal.TheVariants.{StoreLength, OutputLength, SessionClosed, MessageShort, NoSessionInit, SameIdentity, UnitLength, MacDiffers, UnitContents, DataLength, NoKey, StoreUnsound, KeyLength, NoRoom}
 
-abbrev pub houseNumber : Refusal → ℕ
-houseNumber StoreLength = 1
-houseNumber OutputLength = 2
-houseNumber SessionClosed = 3
-houseNumber MessageShort = 4
-houseNumber NoSessionInit = 5
-houseNumber SameIdentity = 6
-houseNumber UnitLength = 7
-houseNumber MacDiffers = 8
-houseNumber UnitContents = 9
-houseNumber DataLength = 10
-houseNumber NoKey = 11
-houseNumber StoreUnsound = 12
-houseNumber KeyLength = 13
-houseNumber NoRoom = 14
+abbrev pub house_number : Refusal → ℕ
+house_number StoreLength = 1
+house_number OutputLength = 2
+house_number SessionClosed = 3
+house_number MessageShort = 4
+house_number NoSessionInit = 5
+house_number SameIdentity = 6
+house_number UnitLength = 7
+house_number MacDiffers = 8
+house_number UnitContents = 9
+house_number DataLength = 10
+house_number NoKey = 11
+house_number StoreUnsound = 12
+house_number KeyLength = 13
+house_number NoRoom = 14
 
 -- the refusal with this number, or the number that the call gives
 pub data Answer : Type 0 where
@@ -31,6 +31,6 @@ asks true n a = a
 asks false n a = house n
 
 -- a lent buffer afterwards: what was made where the call answers, the old bytes where it refuses
-abbrev pub unlessRefused : Answer → List ℕ → List ℕ → List ℕ
-unlessRefused (gives n) made old = made
-unlessRefused (house n) made old = old
+abbrev pub unless_refused : Answer → List ℕ → List ℕ → List ℕ
+unless_refused (gives n) made old = made
+unless_refused (house n) made old = old

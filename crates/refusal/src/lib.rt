@@ -1,6 +1,6 @@
 // The refusals of the house (document 01, "Refusals of the house"; H14 is of document 02, change request 6).
 ghost use Rattle.std.specs.Prelude.{◌≡◌};
-ghost use Rattle.refusal.specs.House.{house, houseNumber};
+ghost use Rattle.refusal.specs.House.{house, house_number};
 ghost use Rattle.refusal.specs.Code.{code};
 
 #[derive(Drop)]
@@ -37,7 +37,7 @@ pub enum Refusal {
 
 // The number that the papers give the refusal.
 pub fn house_number(h: Refusal) -> u8
-    ensures { result ≡ houseNumber h }
+    ensures { result ≡ house_number h }
 {
     match h {
         Refusal::StoreLength => 1,
@@ -59,7 +59,7 @@ pub fn house_number(h: Refusal) -> u8
 
 // The number that C is given.
 pub fn refusal_code(h: Refusal) -> i32
-    ensures { result ≡ code (house (houseNumber h)) }
+    ensures { result ≡ code (house (house_number h)) }
 {
     0 - (house_number(h) as i32)
 }

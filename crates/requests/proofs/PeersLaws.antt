@@ -8,16 +8,16 @@ use lib.ListN.{length, take, drop, replicate, length-append, length-replicate, t
 use lib.Seq.{drop_at, drop-drop, length-take-le}
 use Rattle.octets.specs.Bytes.{Bytes, be16, be32, part, splice, closed, opened}
 use Rattle.octets.specs.Words.{numbers, words}
-use Rattle.octets.proofs.PartLaws.{part-mid}
-use Rattle.octets.proofs.SpliceLaws.{splice-mid, splice-head}
+use Rattle.octets.proofs.PartLaws.{part_mid}
+use Rattle.octets.proofs.SpliceLaws.{splice_mid, splice-head}
 use Rattle.octets.proofs.WordLaws.{length-numbers, length-words, part-words}
-use Rattle.store.specs.Store.{Entry, header, keyRecord, keyRecords, peersOf, encode, entries}
-use Rattle.store.specs.Request.{updateAt, withPeers}
+use Rattle.store.specs.Store.{Entry, header, key_record, key_records, peers_of, encode, entries}
+use Rattle.store.specs.Request.{update_at, with_peers}
 use Rattle.store.specs.declared.Limits.{Limits}
-use Rattle.store.proofs.EncodingLaws.{front_length, keyRecord-length, keyRecords-length}
-use Rattle.requests.specs.Edit.{withCounts, renumbered, replaced}
-use Rattle.requests.proofs.RecordLaws.{share-written, renumbered-records, header-counts}
-use Rattle.requests.proofs.AroundLaws.{Parts, Around, zeros-join, encode-parts, updateAt-middle}
+use Rattle.store.proofs.EncodingLaws.{front_length, key_record-length, key_records-length}
+use Rattle.requests.specs.Edit.{with_counts, renumbered, replaced}
+use Rattle.requests.proofs.RecordLaws.{share_written, renumbered-records, header-counts}
+use Rattle.requests.proofs.AroundLaws.{Parts, Around, zeros-join, encode-parts, update_at-middle}
 use Rattle.requests.proofs.ValidityLaws.{group-middle}
 
 -- ---- a part in the middle, replaced
@@ -52,8 +52,8 @@ module _ (A O B W : List ℕ) (i old new tail y z : ℕ) (ea : length A ≡ i) (
   abbrev X : List ℕ
   X = W ++ (B ++ replicate (old - new) 0)
 
-  length_X : length X ≡ old + tail + (new - old)
-  length_X = length-append W (B ++ replicate (old - new) 0) ∙ omega (arith, length-append B (replicate {A = ℕ} (old - new) 0), length-replicate {A = ℕ} (old - new) 0)
+  length_x : length X ≡ old + tail + (new - old)
+  length_x = length-append W (B ++ replicate (old - new) 0) ∙ omega (arith, length-append B (replicate {A = ℕ} (old - new) 0), length-replicate {A = ℕ} (old - new) 0)
 
   -- and what stays behind it
   behind : drop (old + tail + (new - old)) (O ++ (B ++ replicate y 0)) ≡ replicate (y - (new - old)) 0
@@ -73,9 +73,9 @@ module _ (A O B W : List ℕ) (i old new tail y z : ℕ) (ea : length A ≡ i) (
       let n : ℕ = old + tail + (new - old) in
       let le : length E ≡ old + tail + y = length-append O (B ++ Y) ∙ omega (arith, length-append B Y, length-replicate {A = ℕ} y 0) in
       ap (λ (x : List ℕ). splice (A ++ E) i (W ++ (x ++ replicate (old - new) 0)))
-      (ap (λ (x : List ℕ). part x (i + old) tail) (sym (append_assoc A O (B ++ Y))) ∙ part-mid (A ++ O) B Y (i + old) tail (length-append A O ∙ omega arith) eb)
+      (ap (λ (x : List ℕ). part x (i + old) tail) (sym (append_assoc A O (B ++ Y))) ∙ part_mid (A ++ O) B Y (i + old) tail (length-append A O ∙ omega arith) eb)
       ∙ ap (λ (x : List ℕ). splice (A ++ x) i X) (sym (take-append-drop n E))
-      ∙ splice-mid A (take n E) (drop n E) X i ea (length-take-le n E (omega arith) ∙ sym length_X)
+      ∙ splice_mid A (take n E) (drop n E) X i ea (length-take-le n E (omega arith) ∙ sym length_x)
       ∙ ap (λ (x : List ℕ). A ++ (X ++ x)) behind
       ∙ ap (λ (x : List ℕ). A ++ x) (group-tail W B (replicate (old - new) 0) (replicate (y - (new - old)) 0)
       ∙ ap (λ (x : List ℕ). W ++ (B ++ x)) (zeros-join (old - new) (y - (new - old)) z (omega arith)))
@@ -109,165 +109,165 @@ module _ (L : Limits) (pre : List Entry) (e : Entry) (post : List Entry) (i n m 
   H = header L n m
 
   abbrev R : List ℕ
-  R = keyRecords 0 pre
+  R = key_records 0 pre
 
   abbrev E : List ℕ
-  E = keyRecord f e
+  E = key_record f e
 
   abbrev Q : List ℕ
-  Q = keyRecords (f + k) post
+  Q = key_records (f + k) post
 
   abbrev Z0 : List ℕ
   Z0 = replicate (44 * (K - n)) 0
 
   abbrev F : List ℕ
-  F = words (peersOf pre)
+  F = words (peers_of pre)
 
   abbrev G : List ℕ
-  G = words (peersOf post)
+  G = words (peers_of post)
 
   -- what stands behind the records afterwards
   abbrev T : List ℕ
   T = Z0 ++ ((F ++ (words xs ++ G)) ++ replicate (4 * (P - (m - k + c))) 0)
 
-  pub new-parts : Parts L pre (withPeers xs e) post i n (m - k + c) f c
+  pub new-parts : Parts L pre (with_peers xs e) post i n (m - k + c) f c
   new-parts =
-      let peers : m ≡ f + (k + length (peersOf post)) = p.peers in
+      let peers : m ≡ f + (k + length (peers_of post)) = p.peers in
       record {
-        long-pre = p.long-pre;
+        long_pre = p.long_pre;
         long = p.long;
-        long-post = p.long-post;
+        long_post = p.long_post;
         place = p.place;
         keys = p.keys;
         peers = omega arith;
-        first-is = p.first-is;
-        count-is = ec;
-        keys-fit = p.keys-fit;
-        peers-fit = fits;
+        first_is = p.first_is;
+        count_is = ec;
+        keys_fit = p.keys_fit;
+        peers_fit = fits;
         small = p.small;
       }
 
-  at-record : length (H ++ R) ≡ 12 + 44 * i
-  at-record = front_length L pre n m i p.long-pre p.place
+  at_record : length (H ++ R) ≡ 12 + 44 * i
+  at_record = front_length L pre n m i p.long_pre p.place
 
   at-peers : length (((H ++ R) ++ (E ++ Q)) ++ (Z0 ++ F)) ≡ 12 + 44 * K + 4 * f
   at-peers =
       length-append ((H ++ R) ++ (E ++ Q)) (Z0 ++ F)
       ∙ ap (λ (x : ℕ). x + length (Z0 ++ F)) (length-append (H ++ R) (E ++ Q) ∙ ap (λ (x : ℕ). length (H ++ R) + x) (length-append E Q))
       ∙ ap (λ (x : ℕ). length (H ++ R) + (length E + length Q) + x) (length-append Z0 F)
-      ∙ before-peers (length (H ++ R)) (length E) (length Q) (length Z0) (length F) K n i (length post) f at-record (keyRecord-length f e p.long)
-      (keyRecords-length (f + k) post p.long-post) (length-replicate {A = ℕ} (44 * (K - n)) 0)
-      (length-words (peersOf pre) ∙ ap (λ (x : ℕ). 4 * x) (sym p.first-is)) p.keys p.keys-fit
+      ∙ before-peers (length (H ++ R)) (length E) (length Q) (length Z0) (length F) K n i (length post) f at_record (key_record-length f e p.long)
+      (key_records-length (f + k) post p.long_post) (length-replicate {A = ℕ} (44 * (K - n)) 0)
+      (length-words (peers_of pre) ∙ ap (λ (x : ℕ). 4 * x) (sym p.first_is)) p.keys p.keys_fit
 
   peers-replaced : replaced (encode L (pre ++ (e ∷ post))) (12 + 44 * K + 4 * f) (4 * k) (4 * c) (4 * (m - f - k)) (words xs) ≡ (H ++ R) ++ (E ++ (Q ++ T))
   peers-replaced =
       let Y : List ℕ = replicate (4 * (P - m)) 0 in
-      let q : ℕ = length (peersOf post) in
+      let q : ℕ = length (peers_of post) in
       ap (λ (x : List ℕ). replaced x (12 + 44 * K + 4 * f) (4 * k) (4 * c) (4 * (m - f - k)) (words xs))
       (encode-parts L pre e post i n m f k p ∙ group-peers H R E Q Z0 F (words e.peers) G Y)
       ∙ replaced-middle (((H ++ R) ++ (E ++ Q)) ++ (Z0 ++ F)) (words e.peers) G (words xs) (12 + 44 * K + 4 * f) (4 * k) (4 * c) (4 * (m - f - k)) (4 * (P - m)) (4 * (P - (m - k + c)))
       at-peers
-      (length-words e.peers ∙ ap (λ (x : ℕ). 4 * x) (sym p.count-is))
-      (length-words (peersOf post) ∙ ap (λ (x : ℕ). 4 * x) (sym (tail-is m f k q p.peers)))
+      (length-words e.peers ∙ ap (λ (x : ℕ). 4 * x) (sym p.count_is))
+      (length-words (peers_of post) ∙ ap (λ (x : ℕ). 4 * x) (sym (tail-is m f k q p.peers)))
       (length-words xs ∙ ap (λ (x : ℕ). 4 * x) (sym ec))
-      (room-same P m f k q c p.peers p.peers-fit fits)
+      (room-same P m f k q c p.peers p.peers_fit fits)
       ∙ sym (group-peers H R E Q Z0 F (words xs) G (replicate (4 * (P - (m - k + c))) 0))
       ∙ group-middle H R E Q T
 
-  list-replaced : withCounts
+  list_replaced : with_counts
       (renumbered
       (splice (replaced (encode L (pre ++ (e ∷ post))) (12 + 44 * K + 4 * f) (4 * k) (4 * c) (4 * (m - f - k)) (words xs)) (12 + 44 * i + 40) (be16 f ++ be16 c))
       (12 + 44 * i + 44) (n - i - 1) (f + c))
       n (m - k + c)
-      ≡ encode L (pre ++ (withPeers xs e ∷ post))
-  list-replaced =
-      let E' : List ℕ = keyRecord f (withPeers xs e) in
-      let Q' : List ℕ = keyRecords (f + c) post in
+      ≡ encode L (pre ++ (with_peers xs e ∷ post))
+  list_replaced =
+      let E' : List ℕ = key_record f (with_peers xs e) in
+      let Q' : List ℕ = key_records (f + c) post in
       let m' : ℕ = m - k + c in
       let keys : n ≡ i + 1 + length post = p.keys in
-      let peers : m ≡ f + (k + length (peersOf post)) = p.peers in
-      let mP : m ≤ P = p.peers-fit in
+      let peers : m ≡ f + (k + length (peers_of post)) = p.peers in
+      let m_p : m ≤ P = p.peers_fit in
       let small : P < 65536 = p.small in
       let rest : n - i - 1 ≡ length post = omega arith in
-      let behind : length ((H ++ R) ++ E') ≡ 12 + 44 * i + 44 = length-append (H ++ R) E' ∙ omega (arith, at-record, keyRecord-length f (withPeers xs e) p.long) in
-      ap (λ (x : List ℕ). withCounts (renumbered (splice x (12 + 44 * i + 40) (be16 f ++ be16 c)) (12 + 44 * i + 44) (n - i - 1) (f + c)) n m') peers-replaced
-      ∙ ap (λ (x : List ℕ). withCounts (renumbered x (12 + 44 * i + 44) (n - i - 1) (f + c)) n m')
-      (share-written (H ++ R) (Q ++ T) e (12 + 44 * i) f at-record p.long f c xs ec ∙ group-passed (H ++ R) E' Q T)
-      ∙ ap (λ (x : ℕ). withCounts (renumbered (((H ++ R) ++ E') ++ (Q ++ T)) (12 + 44 * i + 44) x (f + c)) n m') rest
-      ∙ ap (λ (x : List ℕ). withCounts x n m')
-      (renumbered-records post ((H ++ R) ++ E') T (12 + 44 * i + 44) (f + k) (f + c) behind p.long-post (omega arith)
+      let behind : length ((H ++ R) ++ E') ≡ 12 + 44 * i + 44 = length-append (H ++ R) E' ∙ omega (arith, at_record, key_record-length f (with_peers xs e) p.long) in
+      ap (λ (x : List ℕ). with_counts (renumbered (splice x (12 + 44 * i + 40) (be16 f ++ be16 c)) (12 + 44 * i + 44) (n - i - 1) (f + c)) n m') peers-replaced
+      ∙ ap (λ (x : List ℕ). with_counts (renumbered x (12 + 44 * i + 44) (n - i - 1) (f + c)) n m')
+      (share_written (H ++ R) (Q ++ T) e (12 + 44 * i) f at_record p.long f c xs ec ∙ group-passed (H ++ R) E' Q T)
+      ∙ ap (λ (x : ℕ). with_counts (renumbered (((H ++ R) ++ E') ++ (Q ++ T)) (12 + 44 * i + 44) x (f + c)) n m') rest
+      ∙ ap (λ (x : List ℕ). with_counts x n m')
+      (renumbered-records post ((H ++ R) ++ E') T (12 + 44 * i + 44) (f + k) (f + c) behind p.long_post (omega arith)
       ∙ sym (group-passed (H ++ R) E' Q' T) ∙ sym (group-middle H R E' Q' T))
       ∙ header-counts L n m n m' ((R ++ (E' ++ Q')) ++ T)
-      ∙ sym (encode-parts L pre (withPeers xs e) post i n m' f c new-parts)
+      ∙ sym (encode-parts L pre (with_peers xs e) post i n m' f c new-parts)
 
 -- what the calls of a replacement leave
 pub peers-written : (L : Limits) (s msg : List ℕ) (i at c n m f k : ℕ) (t u v w : List ℕ) → Around L s i n m f k → Bytes msg → at + 4 * c ≤ length msg → m - k + c ≤ L.peers
     → t ≡ replaced s (12 + 44 * L.keys + 4 * f) (4 * k) (4 * c) (4 * (m - f - k)) (part msg at (4 * c))
     → u ≡ splice t (12 + 44 * i + 40) (be16 f ++ be16 c)
     → v ≡ renumbered u (12 + 44 * i + 44) (n - i - 1) (f + c)
-    → w ≡ withCounts v n (m - k + c)
-    → w ≡ encode L (updateAt i (withPeers (numbers msg at c)) (entries L s))
+    → w ≡ with_counts v n (m - k + c)
+    → w ≡ encode L (update_at i (with_peers (numbers msg at c)) (entries L s))
 peers-written L s msg i at c n m f k t u v w o bm hm fits et eu ev ew =
     let xs : List ℕ = numbers msg at c in
     let r : List ℕ → List ℕ → List ℕ = λ y z. replaced y (12 + 44 * L.keys + 4 * f) (4 * k) (4 * c) (4 * (m - f - k)) z in
-    ew ∙ ap (λ (x : List ℕ). withCounts x n (m - k + c))
+    ew ∙ ap (λ (x : List ℕ). with_counts x n (m - k + c))
     (ev ∙ ap (λ (x : List ℕ). renumbered x (12 + 44 * i + 44) (n - i - 1) (f + c))
     (eu ∙ ap (λ (x : List ℕ). splice x (12 + 44 * i + 40) (be16 f ++ be16 c))
     (et ∙ ap (r s) (part-words msg bm c at hm) ∙ ap (λ (x : List ℕ). r x (words xs)) o.whole)))
-    ∙ list-replaced L o.pre o.e o.post i n m f k o.parts xs c (sym (length-numbers msg at c)) fits
-    ∙ ap (encode L) (sym (ap (updateAt i (withPeers xs)) o.cut ∙ updateAt-middle o.pre o.e o.post (withPeers xs) i o.parts.place))
+    ∙ list_replaced L o.pre o.e o.post i n m f k o.parts xs c (sym (length-numbers msg at c)) fits
+    ∙ ap (encode L) (sym (ap (update_at i (with_peers xs)) o.cut ∙ update_at-middle o.pre o.e o.post (with_peers xs) i o.parts.place))
 
 -- ---- as many peers as before
 
 module _ (L : Limits) (pre : List Entry) (e : Entry) (post : List Entry) (i n m f k : ℕ) (p : Parts L pre e post i n m f k) (xs : List ℕ) (ek : k ≡ length xs) where
   -- the record stays
-  same-record : keyRecord f e ≡ keyRecord f (withPeers xs e)
-  unfolding keyRecord
-  same-record =
-      ap (λ (x : ℕ). be32 e.issuer ++ (be32 e.serial ++ (e.kmac ++ (be32 e.start ++ (be32 e.end ++ (be16 f ++ be16 x)))))) (sym p.count-is ∙ ek)
+  same_record : key_record f e ≡ key_record f (with_peers xs e)
+  unfolding key_record
+  same_record =
+      ap (λ (x : ℕ). be32 e.issuer ++ (be32 e.serial ++ (e.kmac ++ (be32 e.start ++ (be32 e.end ++ (be16 f ++ be16 x)))))) (sym p.count_is ∙ ek)
 
-  same_parts : Parts L pre (withPeers xs e) post i n m f k
+  same_parts : Parts L pre (with_peers xs e) post i n m f k
   same_parts =
       record {
-        long-pre = p.long-pre;
+        long_pre = p.long_pre;
         long = p.long;
-        long-post = p.long-post;
+        long_post = p.long_post;
         place = p.place;
         keys = p.keys;
         peers = p.peers;
-        first-is = p.first-is;
-        count-is = ek;
-        keys-fit = p.keys-fit;
-        peers-fit = p.peers-fit;
+        first_is = p.first_is;
+        count_is = ek;
+        keys_fit = p.keys_fit;
+        peers_fit = p.peers_fit;
         small = p.small;
       }
 
-  list-overwritten : splice (encode L (pre ++ (e ∷ post))) (12 + 44 * L.keys + 4 * f) (words xs) ≡ encode L (pre ++ (withPeers xs e ∷ post))
-  list-overwritten =
+  list_overwritten : splice (encode L (pre ++ (e ∷ post))) (12 + 44 * L.keys + 4 * f) (words xs) ≡ encode L (pre ++ (with_peers xs e ∷ post))
+  list_overwritten =
       let H : List ℕ = header L n m in
-      let R : List ℕ = keyRecords 0 pre in
-      let Q : List ℕ = keyRecords (f + k) post in
+      let R : List ℕ = key_records 0 pre in
+      let Q : List ℕ = key_records (f + k) post in
       let Z : List ℕ = replicate (44 * (L.keys - n)) 0 in
-      let F : List ℕ = words (peersOf pre) in
-      let G : List ℕ = words (peersOf post) in
+      let F : List ℕ = words (peers_of pre) in
+      let G : List ℕ = words (peers_of post) in
       let Y : List ℕ = replicate (4 * (L.peers - m)) 0 in
       let at : ℕ = 12 + 44 * L.keys + 4 * f in
-      let peers : m ≡ f + (k + length (peersOf post)) = p.peers in
-      let fits : m ≤ L.peers = p.peers-fit in
-      ap (λ (x : List ℕ). splice x at (words xs)) (encode-parts L pre e post i n m f k p ∙ group-peers H R (keyRecord f e) Q Z F (words e.peers) G Y)
-      ∙ splice-mid (((H ++ R) ++ (keyRecord f e ++ Q)) ++ (Z ++ F)) (words e.peers) (G ++ Y) (words xs) at (at-peers L pre e post i n m f k p xs k ek (omega arith))
-      (length-words e.peers ∙ ap (λ (x : ℕ). 4 * x) (sym p.count-is ∙ ek) ∙ sym (length-words xs))
-      ∙ sym (group-peers H R (keyRecord f e) Q Z F (words xs) G Y)
-      ∙ ap (λ (x : List ℕ). H ++ ((R ++ (x ++ Q)) ++ (Z ++ ((F ++ (words xs ++ G)) ++ Y)))) same-record
-      ∙ sym (encode-parts L pre (withPeers xs e) post i n m f k same_parts)
+      let peers : m ≡ f + (k + length (peers_of post)) = p.peers in
+      let fits : m ≤ L.peers = p.peers_fit in
+      ap (λ (x : List ℕ). splice x at (words xs)) (encode-parts L pre e post i n m f k p ∙ group-peers H R (key_record f e) Q Z F (words e.peers) G Y)
+      ∙ splice_mid (((H ++ R) ++ (key_record f e ++ Q)) ++ (Z ++ F)) (words e.peers) (G ++ Y) (words xs) at (at-peers L pre e post i n m f k p xs k ek (omega arith))
+      (length-words e.peers ∙ ap (λ (x : ℕ). 4 * x) (sym p.count_is ∙ ek) ∙ sym (length-words xs))
+      ∙ sym (group-peers H R (key_record f e) Q Z F (words xs) G Y)
+      ∙ ap (λ (x : List ℕ). H ++ ((R ++ (x ++ Q)) ++ (Z ++ ((F ++ (words xs ++ G)) ++ Y)))) same_record
+      ∙ sym (encode-parts L pre (with_peers xs e) post i n m f k same_parts)
 
 -- what the one call leaves
-pub peers-overwritten : (L : Limits) (s msg : List ℕ) (i at c n m f k : ℕ) (t : List ℕ) → Around L s i n m f k → Bytes msg → at + 4 * c ≤ length msg → k ≡ c
+pub peers_overwritten : (L : Limits) (s msg : List ℕ) (i at c n m f k : ℕ) (t : List ℕ) → Around L s i n m f k → Bytes msg → at + 4 * c ≤ length msg → k ≡ c
     → t ≡ splice s (12 + 44 * L.keys + 4 * f) (part msg at (4 * c))
-    → t ≡ encode L (updateAt i (withPeers (numbers msg at c)) (entries L s))
-peers-overwritten L s msg i at c n m f k t o bm hm ek et =
+    → t ≡ encode L (update_at i (with_peers (numbers msg at c)) (entries L s))
+peers_overwritten L s msg i at c n m f k t o bm hm ek et =
     let xs : List ℕ = numbers msg at c in
     let j : ℕ = 12 + 44 * L.keys + 4 * f in
     et ∙ ap (splice s j) (part-words msg bm c at hm) ∙ ap (λ (x : List ℕ). splice x j (words xs)) o.whole
-    ∙ list-overwritten L o.pre o.e o.post i n m f k o.parts xs (ek ∙ sym (length-numbers msg at c))
-    ∙ ap (encode L) (sym (ap (updateAt i (withPeers xs)) o.cut ∙ updateAt-middle o.pre o.e o.post (withPeers xs) i o.parts.place))
+    ∙ list_overwritten L o.pre o.e o.post i n m f k o.parts xs (ek ∙ sym (length-numbers msg at c))
+    ∙ ap (encode L) (sym (ap (update_at i (with_peers xs)) o.cut ∙ update_at-middle o.pre o.e o.post (with_peers xs) i o.parts.place))

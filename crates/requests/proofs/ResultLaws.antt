@@ -9,55 +9,55 @@ use native.Mathlib.Omega.{arith}
 use lib.ListN.{length, length-append}
 use lib.Dec.{eqb, leb, ltb}
 use borrow.Author.Tests.{eq-eqb, ne_eqb, le-leb, lt-leb, lt-ltb, le-ltb}
-use Rattle.store.specs.Store.{Entry, peersOf, encode, entries, keyCount, peerCount, allOdd, sound}
-use Rattle.store.specs.Request.{Request, add, delete, validity, entities, Reason, reason, firstReason, is_held, keyPlace, peersBeside, removeAt, updateAt, validFor, withPeers, result, done}
+use Rattle.store.specs.Store.{Entry, peers_of, encode, entries, key_count, peer_count, all_odd, sound}
+use Rattle.store.specs.Request.{Request, add, delete, validity, entities, Reason, reason, first_reason, is_held, key_place, peers_beside, remove_at, update_at, valid_for, with_peers, result, done}
 use Rattle.store.specs.declared.Limits.{Limits}
-use Rattle.store.proofs.EncodingLaws.{peersOf-append}
+use Rattle.store.proofs.EncodingLaws.{peers_of-append}
 use Rattle.store.proofs.SoundLaws.{sound-says}
 use Rattle.store.proofs.DecodeLaws.{entries-length, peers-length, encode-entries}
-use Rattle.store.proofs.RequestLaws.{reason-here, reason-next, reason-none, after-done, after_same, Allowed, add-allowed}
+use Rattle.store.proofs.RequestLaws.{reason-here, reason-next, reason-none, after-done, after_same, Allowed, add_allowed}
 use Rattle.requests.specs.Worked.{Worked}
-use Rattle.requests.proofs.AroundLaws.{Parts, Around, removeAt-middle}
+use Rattle.requests.proofs.AroundLaws.{Parts, Around, remove_at-middle}
 
 -- ---- worked, or refused
 
 module _ (L : Limits) (own : ℕ) (q : Request) (s : List ℕ) where
   pub worked : (t : List ℕ) → result L own q (entries L s) ≡ 0 → t ≡ encode L (done q (entries L s)) → Worked L own q s t 0
-  worked t z e = record { result-is = sym z; store_is = e ∙ ap (encode L) (sym (after-done L own (entries L s) q z)) }
+  worked t z e = record { result_is = sym z; store_is = e ∙ ap (encode L) (sym (after-done L own (entries L s) q z)) }
 
   pub refused : (r : ℕ) → Bytes s → sound L s ≡ true → r ≡ result L own q (entries L s) → (r ≡ 0 → ⊥) → Worked L own q s s r
   refused r b h e z =
       record {
-        result-is = e;
+        result_is = e;
         store_is = encode-entries L s b h ∙ ap (encode L) (sym (after_same L own (entries L s) q (λ x. z (e ∙ x))));
       }
 
 -- ---- whether a key is held: n records, and the search ends at i
 
-module _ (L : Limits) (s : List ℕ) (a b n i : ℕ) (en : n ≡ keyCount s) (ei : i ≡ keyPlace a b (entries L s)) where
+module _ (L : Limits) (s : List ℕ) (a b n i : ℕ) (en : n ≡ key_count s) (ei : i ≡ key_place a b (entries L s)) where
   is-held : i < n → is_held a b (entries L s) ≡ true
-  is-held h = lt-ltb (keyPlace a b (entries L s)) (length (entries L s)) (omega (arith, entries-length L s))
+  is-held h = lt-ltb (key_place a b (entries L s)) (length (entries L s)) (omega (arith, entries-length L s))
 
   not-held : n ≤ i → is_held a b (entries L s) ≡ false
-  not-held h = le-ltb (keyPlace a b (entries L s)) (length (entries L s)) (omega (arith, entries-length L s))
+  not-held h = le-ltb (key_place a b (entries L s)) (length (entries L s)) (omega (arith, entries-length L s))
 
   module _ (own : ℕ) where
-    pub delete-worked : (t : List ℕ) → i < n → t ≡ encode L (removeAt i (entries L s)) → Worked L own (delete a b) s t 0
+    pub delete-worked : (t : List ℕ) → i < n → t ≡ encode L (remove_at i (entries L s)) → Worked L own (delete a b) s t 0
     unfolding result done
     delete-worked t h e =
         worked L own (delete a b) s t (reason-next (not (is_held a b (entries L s))) 1 [] (ap not (is-held h)) ∙ reason-none)
-        (e ∙ ap (λ (x : ℕ). encode L (removeAt x (entries L s))) ei)
+        (e ∙ ap (λ (x : ℕ). encode L (remove_at x (entries L s))) ei)
 
     pub delete-refused : Bytes s → sound L s ≡ true → n ≤ i → Worked L own (delete a b) s s 1
     unfolding result
     delete-refused y h l =
         refused L own (delete a b) s 1 y h (sym (reason-here (not (is_held a b (entries L s))) 1 [] (ap not (not-held l)))) (λ z. omega (arith, z))
 
-    pub validity-worked : (u v : ℕ) (t : List ℕ) → i < n → t ≡ encode L (updateAt i (validFor u v) (entries L s)) → Worked L own (validity a b u v) s t 0
+    pub validity-worked : (u v : ℕ) (t : List ℕ) → i < n → t ≡ encode L (update_at i (valid_for u v) (entries L s)) → Worked L own (validity a b u v) s t 0
     unfolding result done
     validity-worked u v t h e =
         worked L own (validity a b u v) s t (reason-next (not (is_held a b (entries L s))) 1 [] (ap not (is-held h)) ∙ reason-none)
-        (e ∙ ap (λ (x : ℕ). encode L (updateAt x (validFor u v) (entries L s))) ei)
+        (e ∙ ap (λ (x : ℕ). encode L (update_at x (valid_for u v) (entries L s))) ei)
 
     pub validity-refused : (u v : ℕ) → Bytes s → sound L s ≡ true → n ≤ i → Worked L own (validity a b u v) s s 1
     unfolding result
@@ -71,20 +71,20 @@ module _ (L : Limits) (s : List ℕ) (a b n i : ℕ) (en : n ≡ keyCount s) (ei
 
     -- the peers of the others are those that are not the record's own
     module _ (m f k : ℕ) (o : Around L s i n m f k) (h : i < n) (xs : List ℕ) (c : ℕ) (ec : c ≡ length xs) where
-      beside : peersBeside a b (length xs) (entries L s) ≡ m - k + c
+      beside : peers_beside a b (length xs) (entries L s) ≡ m - k + c
       beside =
           let p : Parts L o.pre o.e o.post i n m f k = o.parts in
-          let peers : m ≡ f + (k + length (peersOf o.post)) = p.peers in
-          let first : f ≡ length (peersOf o.pre) = p.first-is in
-          ap (λ (x : ℕ). length (peersOf (removeAt x (entries L s))) + length xs) (sym ei)
-          ∙ ap (λ (x : List Entry). length (peersOf x) + length xs) (ap (removeAt i) o.cut ∙ removeAt-middle o.pre o.e o.post i p.place)
-          ∙ ap (λ (x : List ℕ). length x + length xs) (peersOf-append o.pre o.post)
-          ∙ omega (arith, length-append (peersOf o.pre) (peersOf o.post))
+          let peers : m ≡ f + (k + length (peers_of o.post)) = p.peers in
+          let first : f ≡ length (peers_of o.pre) = p.first_is in
+          ap (λ (x : ℕ). length (peers_of (remove_at x (entries L s))) + length xs) (sym ei)
+          ∙ ap (λ (x : List Entry). length (peers_of x) + length xs) (ap (remove_at i) o.cut ∙ remove_at-middle o.pre o.e o.post i p.place)
+          ∙ ap (λ (x : List ℕ). length x + length xs) (peers_of-append o.pre o.post)
+          ∙ omega (arith, length-append (peers_of o.pre) (peers_of o.post))
 
       over : Bool
-      over = ltb L.peers (peersBeside a b (length xs) (entries L s))
+      over = ltb L.peers (peers_beside a b (length xs) (entries L s))
 
-      past-held : result L own (entities a b xs) (entries L s) ≡ firstReason (reason over 255 ∷ [])
+      past-held : result L own (entities a b xs) (entries L s) ≡ first_reason (reason over 255 ∷ [])
       unfolding result over
       past-held = reason-next (not (is_held a b (entries L s))) 1 _ (ap not (is-held h))
 
@@ -92,14 +92,14 @@ module _ (L : Limits) (s : List ℕ) (a b n i : ℕ) (en : n ≡ keyCount s) (ei
       unfolding over
       entities-over y t l =
           refused L own (entities a b xs) s 255 y t
-          (sym (past-held ∙ reason-here over 255 [] (lt-ltb L.peers (peersBeside a b (length xs) (entries L s)) (omega (arith, beside))))) (λ z. omega (arith, z))
+          (sym (past-held ∙ reason-here over 255 [] (lt-ltb L.peers (peers_beside a b (length xs) (entries L s)) (omega (arith, beside))))) (λ z. omega (arith, z))
 
-      pub entities-worked : (t : List ℕ) → m - k + c ≤ L.peers → t ≡ encode L (updateAt i (withPeers xs) (entries L s)) → Worked L own (entities a b xs) s t 0
+      pub entities-worked : (t : List ℕ) → m - k + c ≤ L.peers → t ≡ encode L (update_at i (with_peers xs) (entries L s)) → Worked L own (entities a b xs) s t 0
       unfolding over done
       entities-worked t l e =
           worked L own (entities a b xs) s t
-          (past-held ∙ reason-next over 255 [] (le-ltb L.peers (peersBeside a b (length xs) (entries L s)) (omega (arith, beside))) ∙ reason-none)
-          (e ∙ ap (λ (x : ℕ). encode L (updateAt x (withPeers xs) (entries L s))) ei)
+          (past-held ∙ reason-next over 255 [] (le-ltb L.peers (peers_beside a b (length xs) (entries L s)) (omega (arith, beside))) ∙ reason-none)
+          (e ∙ ap (λ (x : ℕ). encode L (update_at x (with_peers xs) (entries L s))) ei)
 
 -- ---- an addition, reason by reason
 
@@ -111,61 +111,61 @@ module _ (L : Limits) (own : ℕ) (s : List ℕ) (recipient : ℕ) (e : Entry) w
   full = reason (leb L.keys (length es)) 2
 
   abbrev crowded : Reason
-  crowded = reason (ltb L.peers (length (peersOf es) + length e.peers)) 255
+  crowded = reason (ltb L.peers (length (peers_of es) + length e.peers)) 255
 
   abbrev held : Reason
   held = reason (is_held e.issuer e.serial es) 3
 
-  pub add-not-ours : (recipient ≡ own → ⊥) → 5 ≡ result L own (add recipient e) es
+  pub add_not_ours : (recipient ≡ own → ⊥) → 5 ≡ result L own (add recipient e) es
   unfolding result
-  add-not-ours h = sym (reason-here (not (eqb recipient own)) 5 _ (ap not (ne_eqb recipient own h)))
+  add_not_ours h = sym (reason-here (not (eqb recipient own)) 5 _ (ap not (ne_eqb recipient own h)))
 
   module _ (ours : recipient ≡ own) where
-    past-recipient : result L own (add recipient e) es ≡ firstReason (reason (not (allOdd e.kmac)) 4 ∷ held ∷ full ∷ crowded ∷ [])
+    past_recipient : result L own (add recipient e) es ≡ first_reason (reason (not (all_odd e.kmac)) 4 ∷ held ∷ full ∷ crowded ∷ [])
     unfolding result
-    past-recipient = reason-next (not (eqb recipient own)) 5 _ (ap not (eq-eqb recipient own ours))
+    past_recipient = reason-next (not (eqb recipient own)) 5 _ (ap not (eq-eqb recipient own ours))
 
-    pub add-corrupted : allOdd e.kmac ≡ false → 4 ≡ result L own (add recipient e) es
-    add-corrupted h = sym (past-recipient ∙ reason-here (not (allOdd e.kmac)) 4 _ (ap not h))
+    pub add_corrupted : all_odd e.kmac ≡ false → 4 ≡ result L own (add recipient e) es
+    add_corrupted h = sym (past_recipient ∙ reason-here (not (all_odd e.kmac)) 4 _ (ap not h))
 
-    module _ (odd : allOdd e.kmac ≡ true) (n i : ℕ) (en : n ≡ keyCount s) (ei : i ≡ keyPlace e.issuer e.serial es) where
-      past-parity : result L own (add recipient e) es ≡ firstReason (held ∷ full ∷ crowded ∷ [])
-      past-parity = past-recipient ∙ reason-next (not (allOdd e.kmac)) 4 _ (ap not odd)
+    module _ (odd : all_odd e.kmac ≡ true) (n i : ℕ) (en : n ≡ key_count s) (ei : i ≡ key_place e.issuer e.serial es) where
+      past-parity : result L own (add recipient e) es ≡ first_reason (held ∷ full ∷ crowded ∷ [])
+      past-parity = past_recipient ∙ reason-next (not (all_odd e.kmac)) 4 _ (ap not odd)
 
       pub add-held : i < n → 3 ≡ result L own (add recipient e) es
       add-held h = sym (past-parity ∙ reason-here (is_held e.issuer e.serial es) 3 _ (is-held L s e.issuer e.serial n i en ei h))
 
       module _ (new : n ≤ i) where
-        past-key : result L own (add recipient e) es ≡ firstReason (full ∷ crowded ∷ [])
+        past-key : result L own (add recipient e) es ≡ first_reason (full ∷ crowded ∷ [])
         past-key = past-parity ∙ reason-next (is_held e.issuer e.serial es) 3 _ (not-held L s e.issuer e.serial n i en ei new)
 
         pub add-full : L.keys ≤ n → 2 ≡ result L own (add recipient e) es
         add-full h = sym (past-key ∙ reason-here (leb L.keys (length es)) 2 _ (le-leb L.keys (length es) (omega (arith, entries-length L s))))
 
-        module _ (room : n < L.keys) (t : sound L s ≡ true) (m k : ℕ) (em : m ≡ peerCount s) (ek : k ≡ length e.peers) where
-          past-full : result L own (add recipient e) es ≡ firstReason (crowded ∷ [])
+        module _ (room : n < L.keys) (t : sound L s ≡ true) (m k : ℕ) (em : m ≡ peer_count s) (ek : k ≡ length e.peers) where
+          past-full : result L own (add recipient e) es ≡ first_reason (crowded ∷ [])
           past-full = past-key ∙ reason-next (leb L.keys (length es)) 2 _ (lt-leb L.keys (length es) (omega (arith, entries-length L s)))
 
           pub add-crowded : L.peers < m + k → 255 ≡ result L own (add recipient e) es
           add-crowded h =
               sym (past-full
-              ∙ reason-here (ltb L.peers (length (peersOf es) + length e.peers)) 255 []
-              (lt-ltb L.peers (length (peersOf es) + length e.peers) (omega (arith, peers-length L s (sound-says L s t)))))
+              ∙ reason-here (ltb L.peers (length (peers_of es) + length e.peers)) 255 []
+              (lt-ltb L.peers (length (peers_of es) + length e.peers) (omega (arith, peers-length L s (sound-says L s t)))))
 
-          pub add-possible : m + k ≤ L.peers → 0 ≡ result L own (add recipient e) es
-          add-possible h =
+          pub add_possible : m + k ≤ L.peers → 0 ≡ result L own (add recipient e) es
+          add_possible h =
               sym (past-full
-              ∙ reason-next (ltb L.peers (length (peersOf es) + length e.peers)) 255 []
-              (le-ltb L.peers (length (peersOf es) + length e.peers) (omega (arith, peers-length L s (sound-says L s t))))
+              ∙ reason-next (ltb L.peers (length (peers_of es) + length e.peers)) 255 []
+              (le-ltb L.peers (length (peers_of es) + length e.peers) (omega (arith, peers-length L s (sound-says L s t))))
               ∙ reason-none)
 
 -- what an addition with RESULT 0 has room for, in the store's own counts
 pub add-room : (L : Limits) (own : ℕ) (s : List ℕ) (recipient : ℕ) (e : Entry) (k : ℕ) → sound L s ≡ true → k ≡ length e.peers
-    → result L own (add recipient e) (entries L s) ≡ 0 → (keyCount s < L.keys) × (peerCount s + k ≤ L.peers)
+    → result L own (add recipient e) (entries L s) ≡ 0 → (key_count s < L.keys) × (peer_count s + k ≤ L.peers)
 add-room L own s recipient e k t ek z =
-    let a : Allowed L (entries L s) e = add-allowed L own (entries L s) recipient e z in
-    let keys : length (entries L s) < L.keys = a.keys-left in
-    let peers : length (peersOf (entries L s)) + length e.peers ≤ L.peers = a.peers-left in
+    let a : Allowed L (entries L s) e = add_allowed L own (entries L s) recipient e z in
+    let keys : length (entries L s) < L.keys = a.keys_left in
+    let peers : length (peers_of (entries L s)) + length e.peers ≤ L.peers = a.peers_left in
     (omega (arith, entries-length L s), omega (arith, peers-length L s (sound-says L s t)))
 
 pub add-worked : (L : Limits) (own : ℕ) (s : List ℕ) (recipient : ℕ) (e : Entry) (t : List ℕ) → result L own (add recipient e) (entries L s) ≡ 0

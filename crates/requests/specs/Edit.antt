@@ -2,19 +2,19 @@
 -- Assumes nothing.
 use Rattle.std.specs.Prelude.{◌≡◌, List, ◌++◌, ℕ, zero, suc, ◌+◌, ◌-◌, replicate}
 use Rattle.octets.specs.Bytes.{get16, be16, part, splice}
-use Rattle.store.specs.Store.{keyCount, peerCount, first, count}
+use Rattle.store.specs.Store.{key_count, peer_count, first, count}
 use Rattle.requests.specs.declared.Counts.{Counts}
 
 -- what the counts of a store and of its record i are
 pub record Counted (s : List ℕ) (i : ℕ) (c : Counts) : Type 0 where
-  pub keys-are : c.keys ≡ keyCount s
-  pub peers-are : c.peers ≡ peerCount s
-  pub first-is : c.first ≡ first s i
-  pub count-is : c.count ≡ count s i
+  pub keys_are : c.keys ≡ key_count s
+  pub peers_are : c.peers ≡ peer_count s
+  pub first_is : c.first ≡ first s i
+  pub count_is : c.count ≡ count s i
 
 -- with these counts in the header
-unfoldable pub withCounts : List ℕ → ℕ → ℕ → List ℕ
-withCounts s n m = splice (splice s 2 (be16 n)) 6 (be16 m)
+unfoldable pub with_counts : List ℕ → ℕ → ℕ → List ℕ
+with_counts s n m = splice (splice s 2 (be16 n)) 6 (be16 m)
 
 -- the n records that stand from index i on have their first peers counted anew, from p
 unfoldable pub renumbered : List ℕ → ℕ → ℕ → ℕ → List ℕ

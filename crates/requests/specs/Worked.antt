@@ -10,12 +10,12 @@ use Rattle.requests.specs.declared.Addition.{Addition}
 
 -- the RESULT of request q on the store s is r, and the store afterwards is t
 pub record Worked (L : Limits) (own : ℕ) (q : Request) (s t : List ℕ) (r : ℕ) : Type 0 where
-  pub result-is : r ≡ result L own q (entries L s)
+  pub result_is : r ≡ result L own q (entries L s)
   pub store_is : t ≡ encode L (after L own q (entries L s))
 
 -- the entry of a key whose KMAC and peers stand in a message
-abbrev pub newEntry : Addition → List ℕ → Entry
-newEntry new m =
+abbrev pub new_entry : Addition → List ℕ → Entry
+new_entry new m =
     record {
       issuer = new.issuer;
       serial = new.serial;
@@ -26,4 +26,4 @@ newEntry new m =
     }
 
 abbrev pub addition : Addition → List ℕ → Request
-addition new m = add new.recipient (newEntry new m)
+addition new m = add new.recipient (new_entry new m)

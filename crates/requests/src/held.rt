@@ -1,8 +1,8 @@
 // The record with an issuer and a serial, compared in all four bytes of each.
 ghost use Rattle.std.specs.Prelude.{◌≡◌, ◌+◌, ◌*◌, ◌≤◌, ◌<◌, length};
-ghost use Rattle.store.specs.Layout.{recordAt};
-ghost use Rattle.store.specs.Store.{keyCount, entries, entry_at};
-ghost use Rattle.store.specs.Request.{has_key, keyPlace};
+ghost use Rattle.store.specs.Layout.{record_at};
+ghost use Rattle.store.specs.Store.{key_count, entries, entry_at};
+ghost use Rattle.store.specs.Request.{has_key, key_place};
 
 use octets::get32_at;
 use store::field::number_at;
@@ -10,7 +10,7 @@ use store::{KEYS_AT, Limits, RECORD};
 
 // Whether record i has this issuer and serial.
 fn has_key(s: &[u8], lim: Limits, i: usize, issuer: u32, serial: u32) -> bool
-    requires { (i < 65536) × (recordAt i + 44 ≤ length s.now) }
+    requires { (i < 65536) × (record_at i + 44 ≤ length s.now) }
     ensures { result ≡ has_key issuer serial (entry_at lim s.now i) }
 {
     let at = KEYS_AT + RECORD * i;
@@ -22,8 +22,8 @@ fn has_key(s: &[u8], lim: Limits, i: usize, issuer: u32, serial: u32) -> bool
 
 // The place of the record with this issuer and serial, counted from 0, or the number of records.
 pub fn key_place(s: &[u8], lim: Limits, issuer: u32, serial: u32) -> usize
-    requires { recordAt (keyCount s.now) ≤ length s.now }
-    ensures { result ≡ keyPlace issuer serial (entries lim s.now) }
+    requires { record_at (key_count s.now) ≤ length s.now }
+    ensures { result ≡ key_place issuer serial (entries lim s.now) }
 {
     let n = number_at(s, 2);
     let mut i = 0;

@@ -2,8 +2,8 @@
 ghost use Rattle.std.specs.Prelude.{◌≡◌, true, ◌+◌, ◌-◌, ◌*◌, ◌≤◌, ◌<◌, length};
 ghost use Rattle.octets.specs.Bytes.{part};
 ghost use Rattle.octets.specs.Words.{numbers};
-ghost use Rattle.store.specs.Store.{keyCount, peerCount, count, encode, entries, sound};
-ghost use Rattle.store.specs.Request.{updateAt, withPeers};
+ghost use Rattle.store.specs.Store.{key_count, peer_count, count, encode, entries, sound};
+ghost use Rattle.store.specs.Request.{update_at, with_peers};
 ghost use Rattle.requests.specs.Edit.{replaced};
 
 use super::record::{counts_at, put_counts, put_share, renumber};
@@ -27,9 +27,9 @@ fn replace(s: &mut [u8], i: usize, old: usize, new: usize, tail: usize, m: &[u8]
 // Replaces the peers of record i of a sound store by the new peers that stand in m from index at.
 pub fn replace_peers(s: &mut [u8], lim: Limits, i: usize, m: &[u8], at: usize, new: usize)
     requires s_value { sound lim s.old ≡ true }
-    requires i_bound { i < keyCount s.old }
-    requires bound { (peerCount s.old - count s.old i + new ≤ lim.peers) × (at + 4 * new ≤ length m.now) }
-    ensures { s.new ≡ encode lim (updateAt i (withPeers (numbers m.now at new)) (entries lim s.old)) }
+    requires i_bound { i < key_count s.old }
+    requires bound { (peer_count s.old - count s.old i + new ≤ lim.peers) × (at + 4 * new ≤ length m.now) }
+    ensures { s.new ≡ encode lim (update_at i (with_peers (numbers m.now at new)) (entries lim s.old)) }
 {
     let keys = lim.keys;
     let old = counts_at(s, i);
@@ -54,9 +54,9 @@ pub fn replace_peers(s: &mut [u8], lim: Limits, i: usize, m: &[u8], at: usize, n
 // The same, and no byte is moved where there are as many new peers as old ones.
 pub fn set_peers(s: &mut [u8], lim: Limits, i: usize, m: &[u8], at: usize, new: usize)
     requires s_value { sound lim s.old ≡ true }
-    requires i_bound { i < keyCount s.old }
-    requires bound { (peerCount s.old - count s.old i + new ≤ lim.peers) × (at + 4 * new ≤ length m.now) }
-    ensures { s.new ≡ encode lim (updateAt i (withPeers (numbers m.now at new)) (entries lim s.old)) }
+    requires i_bound { i < key_count s.old }
+    requires bound { (peer_count s.old - count s.old i + new ≤ lim.peers) × (at + 4 * new ≤ length m.now) }
+    ensures { s.new ≡ encode lim (update_at i (with_peers (numbers m.now at new)) (entries lim s.old)) }
 {
     let keys = lim.keys;
     let old = counts_at(s, i);

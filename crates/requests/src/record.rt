@@ -1,10 +1,10 @@
 // A key record's fields and the header's counts, read and written.
 ghost use Rattle.std.specs.Prelude.{◌≡◌, ◌++◌, ◌+◌, ◌*◌, ◌≤◌, ◌<◌, length};
 ghost use Rattle.octets.specs.Bytes.{be16, be32, part, splice};
-ghost use Rattle.store.specs.Layout.{recordAt};
-ghost use Rattle.store.specs.Store.{keyRecord};
-ghost use Rattle.requests.specs.Edit.{Counted, withCounts, renumbered};
-ghost use Rattle.requests.specs.Worked.{newEntry};
+ghost use Rattle.store.specs.Layout.{record_at};
+ghost use Rattle.store.specs.Store.{key_record};
+ghost use Rattle.requests.specs.Edit.{Counted, with_counts, renumbered};
+ghost use Rattle.requests.specs.Worked.{new_entry};
 
 use super::{Addition, Counts};
 use octets::{copy, put32};
@@ -13,7 +13,7 @@ use store::{KEYS_AT, KMAC, RECORD};
 
 // The counts of the store and of its record i.
 pub fn counts_at(s: &[u8], i: usize) -> Counts
-    requires { (i < 65536) × (recordAt i + 44 ≤ length s.now) }
+    requires { (i < 65536) × (record_at i + 44 ≤ length s.now) }
     ensures { Counted s.now i result }
 {
     let at = KEYS_AT + RECORD * i;
@@ -28,7 +28,7 @@ pub fn counts_at(s: &[u8], i: usize) -> Counts
 // Writes the two counts of the header.
 pub fn put_counts(s: &mut [u8], n: usize, m: usize)
     requires { 12 ≤ length s.old }
-    ensures { s.new ≡ withCounts s.old n m }
+    ensures { s.new ≡ with_counts s.old n m }
 {
     put_number(s, 2, n);
     put_number(s, 6, m);
@@ -65,7 +65,7 @@ pub fn put_share(s: &mut [u8], i: usize, first: usize, count: usize)
 // Writes the record of a new key at index i; its first peer has the index p.
 pub fn put_record(s: &mut [u8], i: usize, p: usize, new: Addition, m: &[u8])
     requires { (i + 44 ≤ length s.old) × (new.kmac + 24 ≤ length m.now) }
-    ensures { s.new ≡ splice s.old i (keyRecord p (newEntry new m.now)) }
+    ensures { s.new ≡ splice s.old i (key_record p (new_entry new m.now)) }
 {
     put_key(s, i, new.issuer, new.serial, m, new.kmac);
     put_period(s, i + 32, new.start, new.end);

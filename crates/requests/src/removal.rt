@@ -1,7 +1,7 @@
 // A record taken out: its peers fall away, then the gap in the records is closed; what falls free is zero.
 ghost use Rattle.std.specs.Prelude.{◌≡◌, true, ◌<◌};
-ghost use Rattle.store.specs.Store.{keyCount, encode, entries, sound};
-ghost use Rattle.store.specs.Request.{removeAt};
+ghost use Rattle.store.specs.Store.{key_count, encode, entries, sound};
+ghost use Rattle.store.specs.Request.{remove_at};
 
 use super::peers::replace_peers;
 use octets::close_gap;
@@ -11,8 +11,8 @@ use store::{KEYS_AT, Limits, RECORD};
 // Takes record i out of a sound store: no peers take the place of its own, then the used records behind it move up. Behind those all is zero.
 pub fn remove_at(s: &mut [u8], lim: Limits, i: usize)
     requires s_value { sound lim s.old ≡ true }
-    requires i_bound { i < keyCount s.old }
-    ensures { s.new ≡ encode lim (removeAt i (entries lim s.old)) }
+    requires i_bound { i < key_count s.old }
+    ensures { s.new ≡ encode lim (remove_at i (entries lim s.old)) }
 {
     let n = number_at(s, 2);
     replace_peers(s, lim, i, b"", 0, 0);

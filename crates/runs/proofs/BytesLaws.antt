@@ -7,8 +7,8 @@ use lib.ListN.{length, get_or, replicate}
 use Rattle.octets.specs.Bytes.{Bytes, be16, be32}
 use Rattle.octets.specs.Words.{words}
 use Rattle.store.specs.declared.Limits.{Limits}
-use Rattle.store.specs.Layout.{peersAt, total}
-use Rattle.store.specs.Store.{Entry, peersOf, header, keyRecord, keyRecords, encode}
+use Rattle.store.specs.Layout.{peers_at, total}
+use Rattle.store.specs.Store.{Entry, peers_of, header, key_record, key_records, encode}
 use Rattle.store.specs.WellFormed.{Fitting, nobody, WellFormed}
 
 -- a record, so that the list can be found from it
@@ -56,26 +56,26 @@ words-bytes (x ∷ xs) = be32-then x (words-bytes xs)
 
 header-bytes : (L : Limits) (n m : ℕ) → AreBytes (header L n m)
 unfolding header
-header-bytes L n m = be16-then L.edition (be16-then n (be16-then 12 (be16-then m (be16-then (peersAt L) (record { at = be16-at (total L) })))))
+header-bytes L n m = be16-then L.edition (be16-then n (be16-then 12 (be16-then m (be16-then (peers_at L) (record { at = be16-at (total L) })))))
 
-keyRecord-bytes : (p : ℕ) (e : Entry) → Bytes e.kmac → AreBytes (keyRecord p e)
-unfolding keyRecord
-keyRecord-bytes p e h =
+key_record-bytes : (p : ℕ) (e : Entry) → Bytes e.kmac → AreBytes (key_record p e)
+unfolding key_record
+key_record-bytes p e h =
     be32-then e.issuer
     (be32-then e.serial
     (then e.kmac (record { at = h }) (be32-then e.start (be32-then e.end (be16-then p (record { at = be16-at (length e.peers) }))))))
 
-keyRecords-bytes : (p : ℕ) (es : List Entry) → ((j : ℕ) → j < length es → Fitting (get_or es j nobody)) → AreBytes (keyRecords p es)
-unfolding keyRecords
-keyRecords-bytes p [] h = record { at = no_bytes }
-keyRecords-bytes p (e ∷ es) h =
-    then (keyRecord p e) (keyRecord-bytes p e (h 0 (omega arith)).kmac-bytes) (keyRecords-bytes (p + length e.peers) es (λ j l. h (suc j) (omega arith)))
+key_records-bytes : (p : ℕ) (es : List Entry) → ((j : ℕ) → j < length es → Fitting (get_or es j nobody)) → AreBytes (key_records p es)
+unfolding key_records
+key_records-bytes p [] h = record { at = no_bytes }
+key_records-bytes p (e ∷ es) h =
+    then (key_record p e) (key_record-bytes p e (h 0 (omega arith)).kmac_bytes) (key_records-bytes (p + length e.peers) es (λ j l. h (suc j) (omega arith)))
 
 pub encode-bytes : (L : Limits) (es : List Entry) → WellFormed L es → Bytes (encode L es)
 unfolding encode
 encode-bytes L es g =
-    let ps : List ℕ = peersOf es in
+    let ps : List ℕ = peers_of es in
     (then (header L (length es) (length ps)) (header-bytes L (length es) (length ps))
-    (then (keyRecords 0 es) (keyRecords-bytes 0 es g.fitting)
+    (then (key_records 0 es) (key_records-bytes 0 es g.fitting)
     (then (replicate (44 * (L.keys - length es)) 0) (record { at = zeros-at (44 * (L.keys - length es)) })
     (then (words ps) (words-bytes ps) (record { at = zeros-at (4 * (L.peers - length ps)) }))))).at

@@ -8,36 +8,36 @@ use lib.ListN.{length}
 use lib.Dec.{eqb, leb}
 use borrow.Author.Tests.{eqb-true, eqb-false}
 use Rattle.refusal.specs.House.{gives}
-use Rattle.store.specs.Layout.{total, edition1, edition2, editionOf, editionIn}
+use Rattle.store.specs.Layout.{total, edition1, edition2, edition_of, edition_in}
 use Rattle.store.specs.Store.{entries}
 use Rattle.store.specs.declared.Limits.{Limits}
 use Rattle.store.specs.declared.Edition.{Edition}
 use Rattle.store.specs.declared.Edition.TheVariants.{Known}
-use Rattle.store.proofs.SearchLaws.{editionOf-says}
-use Rattle.convert.specs.Convert.{hasRoom, answered, converted}
+use Rattle.store.proofs.SearchLaws.{edition_of-says}
+use Rattle.convert.specs.Convert.{has_room, answered, converted}
 use Rattle.convert.proofs.DoneLaws.{done-says, new}
-use Rattle.convert.proofs.RefusedLaws.{of-source}
-use Rattle.runs.specs.Alike.{AlikeStores, soundIn, heldIn}
+use Rattle.convert.proofs.RefusedLaws.{of_source}
+use Rattle.runs.specs.Alike.{AlikeStores, sound_in, held_in}
 use Rattle.runs.specs.Tally.{tags}
 use Rattle.runs.specs.Conversion.{AlikeConverted, ConversionShowsNoKey}
 use Rattle.runs.proofs.EntryLaws.{length-alike, peers-alike}
 use Rattle.runs.proofs.TwinLaws.{Twins, alike-twins, encode-twins, twins-alike, twins-told}
 
-module _ (F T : Limits) (of-F : editionOf (total F) ≡ Known F) (of_T : editionOf (total T) ≡ Known T) (s s' to : List ℕ) (a : AlikeStores s s') where
+module _ (F T : Limits) (of-F : edition_of (total F) ≡ Known F) (of_T : edition_of (total T) ≡ Known T) (s s' to : List ℕ) (a : AlikeStores s s') where
   module _ (long : length s ≡ total F) where
-    known : editionOf (length s) ≡ Known F
-    known = ap editionOf long ∙ of-F
+    known : edition_of (length s) ≡ Known F
+    known = ap edition_of long ∙ of-F
 
-    twins : Twins F (tags (heldIn s) (heldIn s')) s s'
-    twins = alike-twins F s s' a known (ap (λ (E : Edition). soundIn E s) (sym known) ∙ a.sound)
+    twins : Twins F (tags (held_in s) (held_in s')) s s'
+    twins = alike-twins F s s' a known (ap (λ (E : Edition). sound_in E s) (sym known) ∙ a.sound)
 
-    same-room : hasRoom T (entries F s) ≡ hasRoom T (entries F s')
-    unfolding hasRoom
+    same-room : has_room T (entries F s) ≡ has_room T (entries F s')
+    unfolding has_room
     same-room = ap₂ (λ (n : ℕ) (ps : List ℕ). leb n T.keys && leb (length ps) T.peers) (length-alike twins.alike) (peers-alike twins.alike)
 
     same_tests : answered F T s to ≡ answered F T s' to
     unfolding answered
-    same_tests = rw (twins.sound-is, twins.sound-is', a.differ.same_length, same-room)
+    same_tests = rw (twins.sound_is, twins.sound_is', a.differ.same_length, same-room)
 
   same_answer : answered F T s to ≡ answered F T s' to
   same_answer = go (eqb (length s) (total F)) refl
@@ -46,26 +46,26 @@ module _ (F T : Limits) (of-F : editionOf (total F) ≡ Known F) (of_T : edition
       go true e = same_tests (eqb-true (length s) (total F) e)
       go false e =
           let short : length s ≡ total F → ⊥ = eqb-false (length s) (total F) e in
-          of-source F T s to short ∙ sym (of-source F T s' to (λ l. short (a.differ.same_length ∙ l)))
+          of_source F T s to short ∙ sym (of_source F T s' to (λ l. short (a.differ.same_length ∙ l)))
 
   module _ (e : answered F T s to ≡ gives 0) where
     e' : answered F T s' to ≡ gives 0
     e' = sym same_answer ∙ e
 
-    made-twins : Twins T (tags (heldIn s) (heldIn s')) (converted F T s to) (converted F T s' to)
+    made-twins : Twins T (tags (held_in s) (held_in s')) (converted F T s to) (converted F T s' to)
     made-twins =
-        let b = (editionOf-says (total T) T of_T).0 in
+        let b = (edition_of-says (total T) T of_T).0 in
         rw ((done-says F T s to e).made, (done-says F T s' to e').made)
-        (encode-twins T b of_T (new F T s to b a.bytes e) (new F T s' to b a.bytes' e') (twins (done-says F T s to e).from-long).alike)
+        (encode-twins T b of_T (new F T s to b a.bytes e) (new F T s' to b a.bytes' e') (twins (done-says F T s to e).from_long).alike)
 
-alike-converted : (F T : Limits) → editionOf (total F) ≡ Known F → editionOf (total T) ≡ Known T → AlikeConverted F T
+alike-converted : (F T : Limits) → edition_of (total F) ≡ Known F → edition_of (total T) ≡ Known T → AlikeConverted F T
 alike-converted F T f t =
     record {
       same_answer = same_answer F T f t;
-      alike-targets = λ s s' to a e. twins-alike T (made-twins F T f t s s' to a e);
+      alike_targets = λ s s' to a e. twins-alike T (made-twins F T f t s s' to a e);
       told = λ s s' to a e. twins-told T (made-twins F T f t s s' to a e);
     }
 
 pub conversion-shows-no-key : ConversionShowsNoKey
-unfolding editionOf editionIn
-conversion-shows-no-key = record { to-edition2 = alike-converted edition1 edition2 refl refl; to-edition1 = alike-converted edition2 edition1 refl refl }
+unfolding edition_of edition_in
+conversion-shows-no-key = record { to_edition2 = alike-converted edition1 edition2 refl refl; to_edition1 = alike-converted edition2 edition1 refl refl }

@@ -11,10 +11,10 @@ use borrow.Author.Tests.{lt-leb, le-ltb, le-leb, lt-ltb}
 use lib.Count.{ones}
 use Rattle.octets.specs.Bytes.{get16, get32, part, all_below}
 use Rattle.octets.specs.Words.{numbers}
-use Rattle.octets.proofs.BoolLaws.{and_both, and-false-left, and-false-right}
+use Rattle.octets.proofs.BoolLaws.{and_both, and_false_left, and_false_right}
 use Rattle.octets.proofs.PartLaws.{part_length, part_at}
-use Rattle.store.specs.Store.{allOdd, isOdd}
-use Rattle.runs.specs.Alike.{inKey}
+use Rattle.store.specs.Store.{all_odd, is_odd}
+use Rattle.runs.specs.Alike.{in_key}
 
 -- the same from index a on, n elements long
 abbrev pub SameIn : List ℕ → List ℕ → ℕ → ℕ → Type 0
@@ -36,30 +36,30 @@ module _ (x y : List ℕ) where
 
 -- ---- parity
 
-allBelow-same : (n : ℕ) (p q : ℕ → Bool) → ((i : ℕ) → i < n → p i ≡ q i) → all_below n p ≡ all_below n q
+all_below-same : (n : ℕ) (p q : ℕ → Bool) → ((i : ℕ) → i < n → p i ≡ q i) → all_below n p ≡ all_below n q
 unfolding all_below
-allBelow-same zero p q h = refl
-allBelow-same (suc n) p q h = ap₂ (λ (a b : Bool). a && b) (allBelow-same n p q (λ i l. h i (omega arith))) (h n (omega arith))
+all_below-same zero p q h = refl
+all_below-same (suc n) p q h = ap₂ (λ (a b : Bool). a && b) (all_below-same n p q (λ i l. h i (omega arith))) (h n (omega arith))
 
 -- where bytes in the same place have the same parity, so have two parts in the same place
-pub allOdd-same : (x y : List ℕ) (a n : ℕ) → length x ≡ length y → a + n ≤ length x → ((i : ℕ) → ones (get_or x i 0) % 2 ≡ ones (get_or y i 0) % 2)
-    → allOdd (part x a n) ≡ allOdd (part y a n)
-unfolding allOdd
-allOdd-same x y a n e h p =
+pub all_odd-same : (x y : List ℕ) (a n : ℕ) → length x ≡ length y → a + n ≤ length x → ((i : ℕ) → ones (get_or x i 0) % 2 ≡ ones (get_or y i 0) % 2)
+    → all_odd (part x a n) ≡ all_odd (part y a n)
+unfolding all_odd
+all_odd-same x y a n e h p =
     let lx : length (part x a n) ≡ n = part_length x a n h in
     let ly : length (part y a n) ≡ n = part_length y a n (omega arith) in
-    ap (λ (k : ℕ). all_below k (λ j. isOdd (get_or (part x a n) j 0))) lx
-    ∙ allBelow-same n (λ j. isOdd (get_or (part x a n) j 0)) (λ j. isOdd (get_or (part y a n) j 0))
-    (λ j l. ap isOdd (part_at x a n j l) ∙ ap (λ (k : ℕ). eqb k 1) (p (a + j)) ∙ sym (ap isOdd (part_at y a n j l)))
-    ∙ sym (ap (λ (k : ℕ). all_below k (λ j. isOdd (get_or (part y a n) j 0))) ly)
+    ap (λ (k : ℕ). all_below k (λ j. is_odd (get_or (part x a n) j 0))) lx
+    ∙ all_below-same n (λ j. is_odd (get_or (part x a n) j 0)) (λ j. is_odd (get_or (part y a n) j 0))
+    (λ j l. ap is_odd (part_at x a n j l) ∙ ap (λ (k : ℕ). eqb k 1) (p (a + j)) ∙ sym (ap is_odd (part_at y a n j l)))
+    ∙ sym (ap (λ (k : ℕ). all_below k (λ j. is_odd (get_or (part y a n) j 0))) ly)
 
 -- ---- a KMAC field
 
-pub before-key : (a i : ℕ) → i < a → inKey a i ≡ false
-before-key a i h = and-false-left (leb a i) (ltb i (a + 24)) (lt-leb a i h)
+pub before-key : (a i : ℕ) → i < a → in_key a i ≡ false
+before-key a i h = and_false_left (leb a i) (ltb i (a + 24)) (lt-leb a i h)
 
-pub past-key : (a i : ℕ) → a + 24 ≤ i → inKey a i ≡ false
-past-key a i h = and-false-right (leb a i) (ltb i (a + 24)) (le-ltb i (a + 24) h)
+pub past-key : (a i : ℕ) → a + 24 ≤ i → in_key a i ≡ false
+past-key a i h = and_false_right (leb a i) (ltb i (a + 24)) (le-ltb i (a + 24) h)
 
-pub inside-key : (a j : ℕ) → j < 24 → inKey a (a + j) ≡ true
+pub inside-key : (a j : ℕ) → j < 24 → in_key a (a + j) ≡ true
 inside-key a j h = and_both (leb a (a + j)) (ltb (a + j) (a + 24)) (le-leb a (a + j) (omega arith)) (lt-ltb (a + j) (a + 24) (omega arith))

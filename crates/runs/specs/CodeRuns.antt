@@ -6,17 +6,17 @@ use Rattle.store.specs.declared.Limits.{Limits}
 use Rattle.store.specs.declared.Found.{Found}
 use Rattle.store.specs.Layout.{edition1, edition2}
 use Rattle.store.specs.Store.{sound}
-use Rattle.store.specs.Search.{foundAs, find, key}
+use Rattle.store.specs.Search.{found_as, find, key}
 use Rattle.session.specs.declared.Session.{Session}
 use Rattle.session.specs.declared.Begun.{Begun}
 use Rattle.session.specs.declared.Received.{Received}
-use Rattle.session.specs.Sessions.{begunAs, Begins}
-use Rattle.session.specs.Rules.{receivedAs, receive, Does}
-use Rattle.runs.specs.Calls.{Call, starts, brings, searches, World, Seen, begun, received, searched, replyOf, sessionOf}
-use Rattle.runs.specs.Alike.{AlikeCalls, AlikeStores, heldIn}
-use Rattle.runs.specs.Tally.{Tag, tally, messageIn}
-use Rattle.runs.specs.Secrecy.{Told, noneUnlike}
-use Rattle.runs.specs.Sound.{noneSaysUnsound}
+use Rattle.session.specs.Sessions.{begun_as, Begins}
+use Rattle.session.specs.Rules.{received_as, receive, Does}
+use Rattle.runs.specs.Calls.{Call, starts, brings, searches, World, Seen, begun, received, searched, reply_of, session_of}
+use Rattle.runs.specs.Alike.{AlikeCalls, AlikeStores, held_in}
+use Rattle.runs.specs.Tally.{Tag, tally, message_in}
+use Rattle.runs.specs.Secrecy.{Told, none_unlike}
+use Rattle.runs.specs.Sound.{none_says_unsound}
 
 -- what a call hands back: its answer and, of a begin or a message, the output buffer afterwards; of a search, the part
 pub data Handed : Type 0 where
@@ -32,19 +32,19 @@ pub data CodeRun : List Call → World → List Handed → World → Type 0 wher
   code-ends : {w : World} → CodeRun [] w [] w
   -- `Session::begin`
   code-begin : {cs : List Call} {hs : List Handed} {w v : World} {own peer start : ℕ} {out after : List ℕ} {r : Begun} → Begins own peer start out after r
-      → CodeRun cs (record { session = sessionOf (begunAs r) w.session; store = w.store }) hs v → CodeRun (starts own peer start out ∷ cs) w (by-begin r after ∷ hs) v
+      → CodeRun cs (record { session = session_of (begun_as r) w.session; store = w.store }) hs v → CodeRun (starts own peer start out ∷ cs) w (by-begin r after ∷ hs) v
   -- `Session::receive`
   code-message : {cs : List Call} {hs : List Handed} {w v : World} {m s out after : List ℕ} {e : Session} {r : Received} → Does (receive w.session m w.store out) r e s after
       → CodeRun cs (record { session = e; store = s }) hs v → CodeRun (brings m out ∷ cs) w (by-message r after ∷ hs) v
   -- `store::find` and `store::key`
-  code-search : {cs : List Call} {hs : List Handed} {w v : World} {peer t : ℕ} {part : List ℕ} {r : Found} → foundAs r ≡ find w.store peer t → part ≡ key w.store peer t
+  code-search : {cs : List Call} {hs : List Handed} {w v : World} {peer t : ℕ} {part : List ℕ} {r : Found} → found_as r ≡ find w.store peer t → part ≡ key w.store peer t
       → CodeRun cs w hs v → CodeRun (searches peer t ∷ cs) w (by-search r part ∷ hs) v
 
 -- what is seen of what a call hands back
-abbrev pub seenBy : Handed → Seen
-seenBy (by-begin r out) = begun (begunAs r) out
-seenBy (by-message r out) = received (receivedAs r) (replyOf (receivedAs r) out) out
-seenBy (by-search r part) = searched (foundAs r) (length part)
+abbrev pub seen_by : Handed → Seen
+seen_by (by-begin r out) = begun (begun_as r) out
+seen_by (by-message r out) = received (received_as r) (reply_of (received_as r) out) out
+seen_by (by-search r part) = searched (found_as r) (length part)
 
 -- ---- what is alike of two
 
@@ -57,23 +57,23 @@ pub data SameHanded : List Handed → List Handed → Type 0 where
       → SameHanded (by-search r part ∷ hs) (by-search r part' ∷ hs')
 
 -- the reply stands at the front of the output buffer
-abbrev pub replyBy : Handed → List ℕ
-replyBy (by-begin r out) = []
-replyBy (by-message r out) = replyOf (receivedAs r) out
-replyBy (by-search r part) = []
+abbrev pub reply_by : Handed → List ℕ
+reply_by (by-begin r out) = []
+reply_by (by-message r out) = reply_of (received_as r) out
+reply_by (by-search r part) = []
 
 -- the tally, fed the replies that the code gave
-abbrev pub tallyBy : List Call → List Call → World → World → List Handed → List Tag
-tallyBy cs cs' w w' hs = tally w.store w'.store (map messageIn cs) (map messageIn cs') (map replyBy hs)
+abbrev pub tally_by : List Call → List Call → World → World → List Handed → List Tag
+tally_by cs cs' w w' hs = tally w.store w'.store (map message_in cs) (map message_in cs') (map reply_by hs)
 
 -- what is alike of the runs that hand back hs and hs' and leave v and v'
 pub record AlikeCode (cs cs' : List Call) (w w' : World) (hs hs' : List Handed) (v v' : World) : Type 0 where
-  pub same-handed : SameHanded hs hs'
-  pub same-replies : map replyBy hs ≡ map replyBy hs'
-  pub same-session : v.session ≡ v'.session
-  pub alike-stores : AlikeStores v.store v'.store
-  pub told : Told (tallyBy cs cs' w w' hs) (heldIn v.store) (heldIn v'.store)
-  pub no-trace : noneUnlike (tallyBy cs cs' w w' hs) ≡ true → v.store ≡ v'.store
+  pub same_handed : SameHanded hs hs'
+  pub same_replies : map reply_by hs ≡ map reply_by hs'
+  pub same_session : v.session ≡ v'.session
+  pub alike_stores : AlikeStores v.store v'.store
+  pub told : Told (tally_by cs cs' w w' hs) (held_in v.store) (held_in v'.store)
+  pub no_trace : none_unlike (tally_by cs cs' w w' hs) ≡ true → v.store ≡ v'.store
 
 -- from equal sessions and alike stores, any two runs of the code with alike calls
 pub record SecrecyOfCalls : Type 0 where
@@ -86,8 +86,8 @@ pub record SecrecyOfCalls : Type 0 where
 -- (document 02, change request 9)
 abbrev pub CodeStaysSound : Limits → Type 0
 CodeStaysSound L = (cs : List Call) (w v : World) (hs : List Handed) → Bytes w.store → sound L w.store ≡ true → AlikeCalls cs cs → CodeRun cs w hs v
-    → (noneSaysUnsound (map seenBy hs) ≡ true) × (sound L v.store ≡ true)
+    → (none_says_unsound (map seen_by hs) ≡ true) × (sound L v.store ≡ true)
 
 pub record NeverSixOfCalls : Type 0 where
-  pub in-edition-1 : CodeStaysSound edition1
-  pub in-edition-2 : CodeStaysSound edition2
+  pub in_edition_1 : CodeStaysSound edition1
+  pub in_edition_2 : CodeStaysSound edition2

@@ -5,7 +5,7 @@ use Rattle.refusal.specs.House.{gives}
 use Rattle.store.specs.Layout.{edition1, edition2}
 use Rattle.store.specs.declared.Limits.{Limits}
 use Rattle.convert.specs.Convert.{answered, converted}
-use Rattle.runs.specs.Alike.{AlikeStores, heldIn}
+use Rattle.runs.specs.Alike.{AlikeStores, held_in}
 use Rattle.runs.specs.Tally.{tags}
 use Rattle.runs.specs.Secrecy.{Told}
 
@@ -14,11 +14,11 @@ pub record AlikeConverted (F T : Limits) : Type 0 where
   -- the answers are the same
   pub same_answer : (s s' to : List ℕ) → AlikeStores s s' → answered F T s to ≡ answered F T s' to
   -- where they are done, the targets are sound and differ only inside KMAC fields
-  pub alike-targets : (s s' to : List ℕ) → AlikeStores s s' → answered F T s to ≡ gives 0 → AlikeStores (converted F T s to) (converted F T s' to)
+  pub alike_targets : (s s' to : List ℕ) → AlikeStores s s' → answered F T s to ≡ gives 0 → AlikeStores (converted F T s to) (converted F T s' to)
   -- and exactly in those records in which the sources do
   pub told : (s s' to : List ℕ) → AlikeStores s s' → answered F T s to ≡ gives 0
-      → Told (tags (heldIn s) (heldIn s')) (heldIn (converted F T s to)) (heldIn (converted F T s' to))
+      → Told (tags (held_in s) (held_in s')) (held_in (converted F T s to)) (held_in (converted F T s' to))
 
 pub record ConversionShowsNoKey : Type 0 where
-  pub to-edition2 : AlikeConverted edition1 edition2
-  pub to-edition1 : AlikeConverted edition2 edition1
+  pub to_edition2 : AlikeConverted edition1 edition2
+  pub to_edition1 : AlikeConverted edition2 edition1

@@ -10,7 +10,7 @@ use Rattle.message.specs.declared.Kind.TheVariants.{Asks, SessionInit, Other}
 use Rattle.message.specs.Header.{kind}
 use Rattle.message.specs.Body.{requests}
 use Rattle.runs.specs.Calls.{Call, starts, brings, searches, Seen, begun, received, searched}
-use Rattle.runs.specs.Alike.{heldIn}
+use Rattle.runs.specs.Alike.{held_in}
 
 -- a tag says unlike exactly where the two KMACs that it was made from differ
 pub record Tag : Type 0 where
@@ -49,22 +49,22 @@ tagged (validity i s a b) r' ts = ts
 tagged (entities i s ps) r' ts = ts
 
 -- the requests in order, with the RESULTs of the first run's reply
-unfoldable pub allTagged : List Request → List Request → List ℕ → List Tag → List Tag
-allTagged [] rs' ns ts = ts
-allTagged (r ∷ rs) [] ns ts = ts
-allTagged (r ∷ rs) (r' ∷ rs') [] ts = ts
-allTagged (r ∷ rs) (r' ∷ rs') (n ∷ ns) ts = allTagged rs rs' ns (cond (eqb n 0) (tagged r r' ts) ts)
+unfoldable pub all_tagged : List Request → List Request → List ℕ → List Tag → List Tag
+all_tagged [] rs' ns ts = ts
+all_tagged (r ∷ rs) [] ns ts = ts
+all_tagged (r ∷ rs) (r' ∷ rs') [] ts = ts
+all_tagged (r ∷ rs) (r' ∷ rs') (n ∷ ns) ts = all_tagged rs rs' ns (cond (eqb n 0) (tagged r r' ts) ts)
 
 -- RESPONSE and the RESULTs of a reply
-abbrev pub responseOf : List ℕ → ℕ
-responseOf reply = get_or reply 20 1
+abbrev pub response_of : List ℕ → ℕ
+response_of reply = get_or reply 20 1
 
-abbrev pub resultsOf : List ℕ → List ℕ
-resultsOf reply = drop 23 reply
+abbrev pub results_of : List ℕ → List ℕ
+results_of reply = drop 23 reply
 
 -- delete all takes out all; nothing else changes the tally
 abbrev pub obeyed : Kind → List ℕ → List ℕ → List ℕ → List Tag → List Tag
-obeyed (Asks (Requests k)) m m' reply ts = allTagged (requests k m) (requests k m') (resultsOf reply) ts
+obeyed (Asks (Requests k)) m m' reply ts = all_tagged (requests k m) (requests k m') (results_of reply) ts
 obeyed (Asks DeleteAll) m m' reply ts = []
 obeyed (Asks EndOfUpdate) m m' reply ts = ts
 obeyed SessionInit m m' reply ts = ts
@@ -74,26 +74,26 @@ obeyed Other m m' reply ts = ts
 
 -- one message of each run, and the first run's reply to it; an empty reply changes nothing
 abbrev pub tallied : (message message' reply : List ℕ) → List Tag → List Tag
-tallied m m' reply ts = cond (eqb (responseOf reply) 0) (obeyed (kind m) m m' reply ts) ts
+tallied m m' reply ts = cond (eqb (response_of reply) 0) (obeyed (kind m) m m' reply ts) ts
 
-unfoldable pub tallyFrom : List Tag → (messages messages' replies : List (List ℕ)) → List Tag
-tallyFrom ts [] ms' rs = ts
-tallyFrom ts (m ∷ ms) [] rs = ts
-tallyFrom ts (m ∷ ms) (m' ∷ ms') [] = ts
-tallyFrom ts (m ∷ ms) (m' ∷ ms') (r ∷ rs) = tallyFrom (tallied m m' r ts) ms ms' rs
+unfoldable pub tally_from : List Tag → (messages messages' replies : List (List ℕ)) → List Tag
+tally_from ts [] ms' rs = ts
+tally_from ts (m ∷ ms) [] rs = ts
+tally_from ts (m ∷ ms) (m' ∷ ms') [] = ts
+tally_from ts (m ∷ ms) (m' ∷ ms') (r ∷ rs) = tally_from (tallied m m' r ts) ms ms' rs
 
 -- fed both starting stores, both runs' messages and the first run's replies, and nothing else
 abbrev pub tally : (store store' : List ℕ) → (messages messages' replies : List (List ℕ)) → List Tag
-tally s s' ms ms' rs = tallyFrom (tags (heldIn s) (heldIn s')) ms ms' rs
+tally s s' ms ms' rs = tally_from (tags (held_in s) (held_in s')) ms ms' rs
 
 -- ---- the message and the reply of a call; a call with none has an empty one at its place
 
-abbrev pub messageIn : Call → List ℕ
-messageIn (starts own peer start out) = []
-messageIn (brings m out) = m
-messageIn (searches peer t) = []
+abbrev pub message_in : Call → List ℕ
+message_in (starts own peer start out) = []
+message_in (brings m out) = m
+message_in (searches peer t) = []
 
-abbrev pub replyIn : Seen → List ℕ
-replyIn (begun a out) = []
-replyIn (received a reply out) = reply
-replyIn (searched a n) = []
+abbrev pub reply_in : Seen → List ℕ
+reply_in (begun a out) = []
+reply_in (received a reply out) = reply
+reply_in (searched a n) = []

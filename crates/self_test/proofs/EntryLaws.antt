@@ -14,7 +14,7 @@ use Rattle.des.specs.Des.{permute, select}
 use Rattle.des.specs.Words.{Holds}
 use Rattle.des.proofs.BitLaws.{split-bits, value-bits}
 use Rattle.des.proofs.WordLaws.{recast, pushed, whole}
-use Rattle.fast_des.specs.Joined.{zeros, placed, moved, joined, pc2Groups}
+use Rattle.fast_des.specs.Joined.{zeros, placed, moved, joined, pc2_groups}
 use Rattle.fast_des.proofs.JoinedLaws.{joined_at, pc2-at}
 
 -- two numbers that hold the same bits
@@ -61,5 +61,5 @@ group-worked i v hi hv h =
     let m : 52 - 4 * i ≡ 56 - (4 * i + 4) = omega arith in
     recast h (ap (permute pc2) (ap (λ (n : ℕ). bits 56 (v * 2 ^ n % 2 ^ 64)) m ∙ at_place 56 i (omega arith) (omega arith) (whole 4 v hv)))
 
-pub group-same : (t : List ℕ) (i v : ℕ) {r : ℕ} → t ≡ pc2Groups → i < 14 → v < 16 → Holds 48 r (permute pc2 (placed 56 i (bits 4 v))) → r ≡ get_or t (16 * i + v) 0
+pub group-same : (t : List ℕ) (i v : ℕ) {r : ℕ} → t ≡ pc2_groups → i < 14 → v < 16 → Holds 48 r (permute pc2 (placed 56 i (bits 4 v))) → r ≡ get_or t (16 * i + v) 0
 group-same t i v ht hi hv h = one_word 48 h (pc2-at i v hi hv) ∙ ap (λ (l : List ℕ). get_or l (16 * i + v) 0) (sym ht)

@@ -1,7 +1,7 @@
 // The self-test at power-on: the two tables of the joined rounds against the printed ones, DES by the printed tables against the joined rounds, Annex B of SUBSET-037-2, the MAC and the session keys.
 // It is proved to answer true. Where it answers false, the machine that runs it is not the one that the proofs are about: memory, processor or compiler back end.
 ghost use Rattle.std.specs.Prelude.{◌≡◌, true};
-ghost use Rattle.fast_des.specs.Joined.{joined, pc2Groups};
+ghost use Rattle.fast_des.specs.Joined.{joined, pc2_groups};
 
 use crate::keys::keys_right;
 use crate::mac::{annex_b, mac_right};
@@ -15,7 +15,7 @@ mod words;
 
 // A block by the printed tables and by the joined rounds, both ways.
 fn block_right(key: u64, x: u64, groups: &[u64], table: &[u64]) -> bool
-    requires { (groups.now ≡ pc2Groups) × (table.now ≡ joined) }
+    requires { (groups.now ≡ pc2_groups) × (table.now ≡ joined) }
     ensures { result ≡ true }
 {
     if encipher(key, x) != fast_encipher(key, x, groups, table) {
@@ -26,7 +26,7 @@ fn block_right(key: u64, x: u64, groups: &[u64], table: &[u64]) -> bool
 
 // What rests on the two tables of the joined rounds, lent.
 fn tables_right(key: u64, x: u64, groups: &[u64], table: &[u64]) -> bool
-    requires { (groups.now ≡ pc2Groups) × (table.now ≡ joined) }
+    requires { (groups.now ≡ pc2_groups) × (table.now ≡ joined) }
     ensures { result ≡ true }
 {
     if !joined_right(table) {

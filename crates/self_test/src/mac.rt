@@ -1,8 +1,8 @@
 // The MAC: Annex B of SUBSET-037-2, and a message's MAC against the printed tables.
 ghost use Rattle.std.specs.Prelude.{◌≡◌, true, ◌+◌, ◌/◌, length};
-ghost use Rattle.fast_des.specs.Joined.{joined, pc2Groups};
+ghost use Rattle.fast_des.specs.Joined.{joined, pc2_groups};
 ghost use Rattle.des.specs.Bits.{bits};
-ghost use Rattle.authentication.specs.Mac.{chain, macString};
+ghost use Rattle.authentication.specs.Mac.{chain, mac_string};
 ghost use Rattle.self_test.specs.Plain.{Chains, Macs};
 
 use crate::words::{decipher, encipher, fast_decipher, fast_encipher};
@@ -34,7 +34,7 @@ fn fast_cbc_mac(
     groups: &[u64],
     table: &[u64],
 ) -> u64
-    requires { (groups.now ≡ pc2Groups) × (table.now ≡ joined) }
+    requires { (groups.now ≡ pc2_groups) × (table.now ≡ joined) }
     ensures { Chains k1 k2 k3 x y z result }
 {
     let h = fast_encipher(k1, 0 ^ x, groups, table);
@@ -46,7 +46,7 @@ fn fast_cbc_mac(
 
 // Annex B by the joined rounds: the string 00 to 14 and three zero bytes.
 pub fn annex_b(groups: &[u64], table: &[u64]) -> bool
-    requires { (groups.now ≡ pc2Groups) × (table.now ≡ joined) }
+    requires { (groups.now ≡ pc2_groups) × (table.now ≡ joined) }
     ensures { result ≡ true }
 {
     let x = 0x0001_0203_0405_0607;
@@ -57,7 +57,7 @@ pub fn annex_b(groups: &[u64], table: &[u64]) -> bool
 
 // The chain over the blocks of a message's string, by the printed tables.
 fn plain_chain(k1: u64, destination: [u8; 3], m: &[u8]) -> u64
-    ensures { bits 64 result ≡ chain (bits 64 k1) (macString destination m.now) ((length m.now + 12) / 8) }
+    ensures { bits 64 result ≡ chain (bits 64 k1) (mac_string destination m.now) ((length m.now + 12) / 8) }
 {
     let n = blocks(m);
     let mut h: u64 = 0;

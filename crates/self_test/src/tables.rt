@@ -4,7 +4,7 @@ ghost use Rattle.des.specs.Bits.{bits};
 ghost use Rattle.des.specs.Tables.{e, p, pc2, sboxes};
 ghost use Rattle.des.specs.Des.{permute};
 ghost use Rattle.des.specs.Words.{Holds};
-ghost use Rattle.fast_des.specs.Joined.{placed, moved, joined, pc2Groups};
+ghost use Rattle.fast_des.specs.Joined.{placed, moved, joined, pc2_groups};
 
 use des::permutation::{choice2, expand, permute_p};
 use des::selection::select;
@@ -69,7 +69,7 @@ fn group_entry(i: usize, v: usize, choice: &[u8]) -> u64
 
 // The 16 entries of group i.
 fn group_right(i: usize, groups: &[u64], choice: &[u8]) -> bool
-    requires { (i < 14) × ((groups.now ≡ pc2Groups) × (choice.now ≡ pc2)) }
+    requires { (i < 14) × ((groups.now ≡ pc2_groups) × (choice.now ≡ pc2)) }
     ensures { result ≡ true }
 {
     let mut v = 0;
@@ -83,7 +83,7 @@ fn group_right(i: usize, groups: &[u64], choice: &[u8]) -> bool
 }
 
 pub fn groups_right(groups: &[u64]) -> bool
-    requires { groups.now ≡ pc2Groups }
+    requires { groups.now ≡ pc2_groups }
     ensures { result ≡ true }
 {
     let choice = pc2_table();

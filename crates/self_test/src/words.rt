@@ -1,33 +1,33 @@
 // Blocks and keys as words: by the printed tables, and by the joined rounds.
 ghost use Rattle.std.specs.Prelude.{◌≡◌};
 ghost use Rattle.des.specs.Bits.{bits};
-ghost use Rattle.des.specs.Des.{encipherBits, decipherBits};
-ghost use Rattle.fast_des.specs.Joined.{joined, pc2Groups};
+ghost use Rattle.des.specs.Des.{encipher_bits, decipher_bits};
+ghost use Rattle.fast_des.specs.Joined.{joined, pc2_groups};
 ghost use Rattle.authentication.specs.Keys.{triple as tripled};
 
 pub fn encipher(key: u64, x: u64) -> u64
-    ensures { bits 64 result ≡ encipherBits (bits 64 key) (bits 64 x) }
+    ensures { bits 64 result ≡ encipher_bits (bits 64 key) (bits 64 x) }
 {
     des::encipher_word(des::schedule(key), x)
 }
 
 pub fn decipher(key: u64, x: u64) -> u64
-    ensures { bits 64 result ≡ decipherBits (bits 64 key) (bits 64 x) }
+    ensures { bits 64 result ≡ decipher_bits (bits 64 key) (bits 64 x) }
 {
     des::decipher_word(des::schedule(key), x)
 }
 
 pub fn fast_encipher(key: u64, x: u64, groups: &[u64], table: &[u64]) -> u64
-    requires { (groups.now ≡ pc2Groups) × (table.now ≡ joined) }
-    ensures { bits 64 result ≡ encipherBits (bits 64 key) (bits 64 x) }
+    requires { (groups.now ≡ pc2_groups) × (table.now ≡ joined) }
+    ensures { bits 64 result ≡ encipher_bits (bits 64 key) (bits 64 x) }
 {
     let keys = fast_des::schedule_by(key, groups);
     fast_des::leave(fast_des::encipher_halves(fast_des::enter(x), keys, table))
 }
 
 pub fn fast_decipher(key: u64, x: u64, groups: &[u64], table: &[u64]) -> u64
-    requires { (groups.now ≡ pc2Groups) × (table.now ≡ joined) }
-    ensures { bits 64 result ≡ decipherBits (bits 64 key) (bits 64 x) }
+    requires { (groups.now ≡ pc2_groups) × (table.now ≡ joined) }
+    ensures { bits 64 result ≡ decipher_bits (bits 64 key) (bits 64 x) }
 {
     let keys = fast_des::schedule_by(key, groups);
     fast_des::leave(fast_des::decipher_halves(fast_des::enter(x), keys, table))

@@ -5,12 +5,12 @@ use borrow.Author.Tests.{lt-leb}
 use Rattle.octets.specs.Bytes.{splice}
 use Rattle.refusal.specs.declared.Refusal.TheVariants.{OutputLength, SameIdentity, NoSessionInit}
 use Rattle.message.specs.Header.{transaction, sequence}
-use Rattle.message.specs.Written.{initBytes, replyHead}
+use Rattle.message.specs.Written.{init_bytes, reply_head}
 use Rattle.session.specs.declared.Session.{Session}
 use Rattle.session.specs.declared.Begun.TheVariants as begun-as
 use Rattle.session.specs.declared.Received.TheVariants as Received-as
-use Rattle.session.specs.Sessions.{State, up, begins, orRefuse, begin, Begins, closing, opening, replied}
-use Rattle.session.specs.Rules.{respond, refuse, opens, whileWaiting}
+use Rattle.session.specs.Sessions.{State, up, begins, or_refuse, begin, Begins, closing, opening, replied}
+use Rattle.session.specs.Rules.{respond, refuse, opens, while_waiting}
 use Rattle.session.specs.Parts.{Waits, Responds}
 
 -- ---- begin
@@ -24,7 +24,7 @@ module _ (own peer start : ℕ) (out : List ℕ) where
   unfolding begin
   begin-same h e = record { answer = simp (le-leb 1032 (length out) h, eq-eqb own peer e); written = simp (le-leb 1032 (length out) h, eq-eqb own peer e) }
 
-  pub begin-right : (after : List ℕ) (next : ℕ) → 1032 ≤ length out → (own ≡ peer → ⊥) → after ≡ splice out 0 (initBytes own peer start) → next ≡ up start
+  pub begin-right : (after : List ℕ) (next : ℕ) → 1032 ≤ length out → (own ≡ peer → ⊥) → after ≡ splice out 0 (init_bytes own peer start) → next ≡ up start
       → Begins own peer start out after (begun-as.Made (record { state = 1; own = own; peer = peer; next = next; expected = 0; remembered = false; transaction = 0 }) 23)
   unfolding begin
   begin-right after next h e w n =
@@ -36,7 +36,7 @@ pub begin-made : (own peer number : ℕ) (out : List ℕ) (e : Session) (n : ℕ
 unfolding begin
 begin-made own peer number out e n q = tested (leb 1032 (length out)) (not (eqb own peer)) _ q
   where
-    tested : (a b : Bool) (made : Session) → orRefuse a 2 (orRefuse b 6 (begins made 23)) ≡ begins e n → (made ≡ e) × (23 ≡ n)
+    tested : (a b : Bool) (made : Session) → or_refuse a 2 (or_refuse b 6 (begins made 23)) ≡ begins e n → (made ≡ e) × (23 ≡ n)
     tested true true made h = (cc, cc)
     tested true false made h = (cc, cc)
     tested false b made h = (cc, cc)
@@ -44,27 +44,27 @@ begin-made own peer number out e n q = tested (leb 1032 (length out)) (not (eqb 
 -- ---- a reply with no RESULT
 
 pub responds : (response : ℕ) (then : State) (e : Session) (m out after : List ℕ) (session : Session) (number : ℕ) → number ≡ transaction m
-    → after ≡ splice out 0 (replyHead e.own e.peer number e.next response 0) → session ≡ replied e then
+    → after ≡ splice out 0 (reply_head e.own e.peer number e.next response 0) → session ≡ replied e then
     → Responds response then e m out after (Received-as.Reply 23) session
 unfolding respond
 responds response then e m out after session number en ea es =
     record {
       by = λ s.
           record {
-            answer-is = refl;
-            session-is = es;
+            answer_is = refl;
+            session_is = es;
             store_is = refl;
-            output-is = ea ∙ ap (λ (n : ℕ). splice out 0 (replyHead e.own e.peer n e.next response 0)) en;
+            output_is = ea ∙ ap (λ (n : ℕ). splice out 0 (reply_head e.own e.peer n e.next response 0)) en;
           };
     }
 
 -- ---- waiting
 
 module _ (e : Session) (m : List ℕ) where
-  pub waits-opened : (session : Session) → opens e m ≡ true → session ≡ opening e (sequence m) → Waits e m Received-as.Opened session
-  unfolding whileWaiting
-  waits-opened session o h = record { by = λ s out. record { answer-is = simp o; session-is = simp o h; store_is = simp o; output-is = simp o } }
+  pub waits_opened : (session : Session) → opens e m ≡ true → session ≡ opening e (sequence m) → Waits e m Received-as.Opened session
+  unfolding while_waiting
+  waits_opened session o h = record { by = λ s out. record { answer_is = simp o; session_is = simp o h; store_is = simp o; output_is = simp o } }
 
-  pub waits-refused : (session : Session) → opens e m ≡ false → session ≡ closing e → Waits e m (Received-as.Refused NoSessionInit) session
-  unfolding whileWaiting refuse
-  waits-refused session o h = record { by = λ s out. record { answer-is = simp o; session-is = simp o h; store_is = simp o; output-is = simp o } }
+  pub waits_refused : (session : Session) → opens e m ≡ false → session ≡ closing e → Waits e m (Received-as.Refused NoSessionInit) session
+  unfolding while_waiting refuse
+  waits_refused session o h = record { by = λ s out. record { answer_is = simp o; session_is = simp o h; store_is = simp o; output_is = simp o } }

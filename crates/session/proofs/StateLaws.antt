@@ -7,7 +7,7 @@ use Rattle.message.specs.declared.Task.TheVariants.{Requests, DeleteAll, EndOfUp
 use Rattle.message.specs.Header.{transaction, sequence}
 use Rattle.session.specs.declared.Session.{Session}
 use Rattle.session.specs.Sessions.{State, Open, closing, opening, remembering, replied}
-use Rattle.session.specs.Rules.{refuse, respond, headerTests, allPass, heard, obey, receive}
+use Rattle.session.specs.Rules.{refuse, respond, header_tests, all_pass, heard, obey, receive}
 use Rattle.session.proofs.RuleLaws.{receive-ends}
 
 -- what holds of each holds of it
@@ -19,7 +19,7 @@ module _ (P : Session → Type 0) (e : Session) (m s out : List ℕ)
     (at-replied : (d : Session) (then : State) → P d → P (replied d then)) where
   at-heard : P (heard e m)
   unfolding heard
-  at-heard = go (allPass (headerTests e m))
+  at-heard = go (all_pass (header_tests e m))
     where
       go : (b : Bool) → P (cond b (remembering e (transaction m)) e)
       go true = at-remembering

@@ -7,12 +7,12 @@ use Rattle.store.specs.declared.Limits.{Limits}
 use Rattle.message.specs.declared.Task.{Task}
 use Rattle.message.specs.declared.Task.TheVariants.{Requests, DeleteAll, EndOfUpdate}
 use Rattle.store.specs.Store.{entries}
-use Rattle.message.specs.Header.{messageLength}
-use Rattle.message.specs.Body.{requestNumber, requests}
+use Rattle.message.specs.Header.{message_length}
+use Rattle.message.specs.Body.{request_number, requests}
 use Rattle.message.proofs.BodyLaws.{listed}
 use Rattle.command.proofs.WorkLaws.{results-length}
 use Rattle.session.specs.declared.Session.{Session}
-use Rattle.session.specs.Sessions.{closing, Beginning, beginOutput}
+use Rattle.session.specs.Sessions.{closing, Beginning, begin_output}
 use Rattle.session.specs.Rules.{Answered, reply, opened, ended, refused, Outcome, refuse, respond, heard, obey, receive}
 use Rattle.session.specs.Claims.{RefusalWritesNothing, OnlyZeroChangesStore, TornLeavesStore, RefusalLeavesSession, OnlyRepliesWrite, ReplyLength}
 use Rattle.session.proofs.RuleLaws.{apart, Passed, verdict-passed, receive-ends}
@@ -22,36 +22,36 @@ use Rattle.session.proofs.RuleLaws.{apart, Passed, verdict-passed, receive-ends}
 -- what is no reply leaves the store, and the output
 record Quiet (s out : List ℕ) (o : Outcome) : Type 0 where
   pub store_kept : ((n : ℕ) → o.answer ≡ reply n → ⊥) → o.store ≡ s
-  pub output-kept : ((n : ℕ) → o.answer ≡ reply n → ⊥) → o.output ≡ out
+  pub output_kept : ((n : ℕ) → o.answer ≡ reply n → ⊥) → o.output ≡ out
 
 replies : (s out : List ℕ) (o : Outcome) (n : ℕ) → o.answer ≡ reply n → Quiet s out o
-replies s out o n q = record { store_kept = λ f. absurd (f n q); output-kept = λ f. absurd (f n q) }
+replies s out o n q = record { store_kept = λ f. absurd (f n q); output_kept = λ f. absurd (f n q) }
 
 quiet : (e : Session) (m s out : List ℕ) → Quiet s out (receive e m s out)
 unfolding refuse respond obey
 quiet e m s out =
-    receive-ends (Quiet s out) e m s out (λ n h. record { store_kept = λ f. refl; output-kept = λ f. refl })
-    (record { store_kept = λ f. refl; output-kept = λ f. refl }) (record { store_kept = λ f. refl; output-kept = λ f. refl })
+    receive-ends (Quiet s out) e m s out (λ n h. record { store_kept = λ f. refl; output_kept = λ f. refl })
+    (record { store_kept = λ f. refl; output_kept = λ f. refl }) (record { store_kept = λ f. refl; output_kept = λ f. refl })
     (λ L t response then h. replies s out (respond response [] then (heard e m) m s out) 23 refl) (λ L t task h. obeyed (heard e m) L task)
   where
     obeyed : (d : Session) (L : Limits) (task : Task) → Quiet s out (obey L task d m s out)
     obeyed d L (Requests k) = replies s out (obey L (Requests k) d m s out) _ refl
     obeyed d L DeleteAll = replies s out (obey L DeleteAll d m s out) 23 refl
-    obeyed d L EndOfUpdate = record { store_kept = λ f. refl; output-kept = λ f. refl }
+    obeyed d L EndOfUpdate = record { store_kept = λ f. refl; output_kept = λ f. refl }
 
-pub only-replies-write : OnlyRepliesWrite
-only-replies-write = record { of-store = λ e m s out. (quiet e m s out).store_kept; of_output = λ e m s out. (quiet e m s out).output-kept }
+pub only_replies_write : OnlyRepliesWrite
+only_replies_write = record { of_store = λ e m s out. (quiet e m s out).store_kept; of_output = λ e m s out. (quiet e m s out).output_kept }
 
 -- a refusal is no reply
 no-reply : (a : Answered) (k n : ℕ) → a ≡ refused k → a ≡ reply n → ⊥
 no-reply a k n p q = apart (refused k) (reply n) refl (sym p ∙ q)
 
-pub refusal-writes-nothing : RefusalWritesNothing
-refusal-writes-nothing =
+pub refusal_writes_nothing : RefusalWritesNothing
+refusal_writes_nothing =
     record {
-      of-begin = λ own peer start out n q. ap (λ (b : Beginning). beginOutput b own peer start out) q;
-      of-store = λ e m s out n q. (quiet e m s out).store_kept (λ k. no-reply (receive e m s out).answer n k q);
-      of_output = λ e m s out n q. (quiet e m s out).output-kept (λ k. no-reply (receive e m s out).answer n k q);
+      of_begin = λ own peer start out n q. ap (λ (b : Beginning). begin_output b own peer start out) q;
+      of_store = λ e m s out n q. (quiet e m s out).store_kept (λ k. no-reply (receive e m s out).answer n k q);
+      of_output = λ e m s out n q. (quiet e m s out).output_kept (λ k. no-reply (receive e m s out).answer n k q);
     }
 
 -- ---- RESPONSE 0
@@ -66,9 +66,9 @@ obey-zero e m s out n L (Requests k) = record { kept = λ q f. absurd (f refl) }
 obey-zero e m s out n L DeleteAll = record { kept = λ q f. absurd (f refl) }
 obey-zero e m s out n L EndOfUpdate = record { kept = λ q f. refl }
 
-pub only-zero-changes-store : OnlyZeroChangesStore
+pub only_zero_changes_store : OnlyZeroChangesStore
 unfolding refuse respond
-only-zero-changes-store =
+only_zero_changes_store =
     record {
       kept = λ e m s out n.
           (receive-ends (Kept s n) e m s out (λ k h. record { kept = λ q f. refl }) (record { kept = λ q f. refl }) (record { kept = λ q f. refl })
@@ -78,14 +78,14 @@ only-zero-changes-store =
 -- ---- a torn message
 
 -- the store is as it was where no command is obeyed
-store-left : (e : Session) (m s out : List ℕ) → (20 ≤ length m → messageLength m ≡ length m → ⊥) → (receive e m s out).store ≡ s
+store-left : (e : Session) (m s out : List ℕ) → (20 ≤ length m → message_length m ≡ length m → ⊥) → (receive e m s out).store ≡ s
 unfolding refuse respond
 store-left e m s out f =
     receive-ends (λ o. o.store ≡ s) e m s out (λ n h. refl) refl refl (λ L t response then h. refl)
-    (λ L t task h. absurd (f t.whole-header (eqb-true (messageLength m) (length m) (and_left (eqb (messageLength m) (length m)) (leb (length m) 5000) (verdict-passed L e m s task h).length-ok))))
+    (λ L t task h. absurd (f t.whole_header (eqb-true (message_length m) (length m) (and_left (eqb (message_length m) (length m)) (leb (length m) 5000) (verdict-passed L e m s task h).length_ok_lem))))
 
 -- a prefix with a whole length field has the message's
-prefix-length : (m : List ℕ) (k : ℕ) → 4 ≤ k → messageLength (take k m) ≡ messageLength m
+prefix-length : (m : List ℕ) (k : ℕ) → 4 ≤ k → message_length (take k m) ≡ message_length m
 prefix-length m k h =
     let h0 : 0 < k = omega arith in
     let h1 : 1 < k = omega arith in
@@ -93,14 +93,14 @@ prefix-length m k h =
     let h3 : 3 < k = omega arith in
     rw (get_or-take k m 0 0 h0, get_or-take k m 1 0 h1, get_or-take k m 2 0 h2, get_or-take k m 3 0 h3)
 
-pub torn-leaves-store : TornLeavesStore
-torn-leaves-store =
+pub torn_leaves_store : TornLeavesStore
+torn_leaves_store =
     record {
-      wrong-length = λ e m s out f. store-left e m s out (λ l q. f q);
+      wrong_length = λ e m s out f. store-left e m s out (λ l q. f q);
       prefix = λ e m s out k h q.
           let n : length (take k m) ≡ k = length-take-le k m (omega arith) in
           store-left e (take k m) s out (λ l p.
-          let b : messageLength (take k m) ≡ messageLength m = prefix-length m k (omega arith) in
+          let b : message_length (take k m) ≡ message_length m = prefix-length m k (omega arith) in
           let c : length m ≡ k = sym q ∙ sym b ∙ p ∙ n in
           omega arith);
     }
@@ -129,8 +129,8 @@ leaves e m s out n =
     obeyed d L DeleteAll = not-refused e n (obey L DeleteAll d m s out) (λ q. no-reply _ n 23 q refl)
     obeyed d L EndOfUpdate = not-refused e n (obey L EndOfUpdate d m s out) (apart ended (refused n) refl)
 
-pub refusal-leaves-session : RefusalLeavesSession
-refusal-leaves-session =
+pub refusal_leaves_session : RefusalLeavesSession
+refusal_leaves_session =
     record { as_it_was = λ e m s out n. (leaves e m s out n).as_it_was; closed = λ e m s out q. (leaves e m s out 5).closed q refl }
 
 -- ---- the length of a reply
@@ -158,8 +158,8 @@ long e m s out n =
   where
     obeyed : (d : Session) (L : Limits) (task : Task) → Passed m task → Long n (obey L task d m s out)
     obeyed d L (Requests k) h =
-        let c = requestNumber m in
-        few-results n c (obey L (Requests k) d m s out) (ap (λ (x : ℕ). reply (23 + x)) (results-length L d.own k m c 22 (entries L s))) (listed k m h.body_ok).few
+        let c = request_number m in
+        few-results n c (obey L (Requests k) d m s out) (ap (λ (x : ℕ). reply (23 + x)) (results-length L d.own k m c 22 (entries L s))) (listed k m h.body_fits).few
     obeyed d L DeleteAll h = few-results n 0 (obey L DeleteAll d m s out) refl (lit≤ tt)
     obeyed d L EndOfUpdate h = not-replied n (obey L EndOfUpdate d m s out) (apart ended (reply n) refl)
 

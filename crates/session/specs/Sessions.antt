@@ -2,8 +2,8 @@
 -- Assumes nothing.
 use Rattle.std.specs.Prelude.{◌≡◌, ℕ, ◌+◌, ◌%◌, Bool, true, false, cond, not, List, length, ◌==◌, nat_le}
 use Rattle.octets.specs.Bytes.{splice}
-use Rattle.refusal.specs.House.{houseNumber}
-use Rattle.message.specs.Written.{initBytes}
+use Rattle.refusal.specs.House.{house_number}
+use Rattle.message.specs.Written.{init_bytes}
 use Rattle.session.specs.declared.Session.{Session}
 use Rattle.session.specs.declared.Begun.{Begun}
 use Rattle.session.specs.declared.Begun.TheVariants as begun-as
@@ -42,10 +42,10 @@ abbrev pub remembering : Session → ℕ → Session
 remembering e n = record { state = e.state; own = e.own; peer = e.peer; next = e.next; expected = e.expected; remembered = true; transaction = n }
 
 -- the expected number rises where the session stays open
-abbrev pub expectedThen : State → ℕ → ℕ
-expectedThen Closed n = n
-expectedThen Waiting n = n
-expectedThen Open n = up n
+abbrev pub expected_then : State → ℕ → ℕ
+expected_then Closed n = n
+expected_then Waiting n = n
+expected_then Open n = up n
 
 -- after a reply
 abbrev pub replied : Session → State → Session
@@ -55,7 +55,7 @@ replied e then =
       own = e.own;
       peer = e.peer;
       next = up e.next;
-      expected = expectedThen then e.expected;
+      expected = expected_then then e.expected;
       remembered = e.remembered;
       transaction = e.transaction;
     }
@@ -67,25 +67,25 @@ pub data Beginning : Type 0 where
   begins : Session → ℕ → Beginning
   refuses : ℕ → Beginning
 
-abbrev pub orRefuse : Bool → ℕ → Beginning → Beginning
-orRefuse test n b = cond test b (refuses n)
+abbrev pub or_refuse : Bool → ℕ → Beginning → Beginning
+or_refuse test n b = cond test b (refuses n)
 
 unfoldable pub begin : ℕ → ℕ → ℕ → List ℕ → Beginning
 begin own peer start out =
-    orRefuse (nat_le 1032 (length out)) 2
-    (orRefuse (not (own == peer)) 6
+    or_refuse (nat_le 1032 (length out)) 2
+    (or_refuse (not (own == peer)) 6
     (begins (record { state = code_of Waiting; own = own; peer = peer; next = up start; expected = 0; remembered = false; transaction = 0 }) 23))
 
 -- what the output buffer holds afterwards
-abbrev pub beginOutput : Beginning → ℕ → ℕ → ℕ → List ℕ → List ℕ
-beginOutput (begins e n) own peer start out = splice out 0 (initBytes own peer start)
-beginOutput (refuses n) own peer start out = out
+abbrev pub begin_output : Beginning → ℕ → ℕ → ℕ → List ℕ → List ℕ
+begin_output (begins e n) own peer start out = splice out 0 (init_bytes own peer start)
+begin_output (refuses n) own peer start out = out
 
 -- the answer in the paper's numbers
-abbrev pub begunAs : Begun → Beginning
-begunAs (begun-as.Made e n) = begins e n
-begunAs (begun-as.Refused h) = refuses (houseNumber h)
+abbrev pub begun_as : Begun → Beginning
+begun_as (begun-as.Made e n) = begins e n
+begun_as (begun-as.Refused h) = refuses (house_number h)
 
 pub record Begins (own peer start : ℕ) (out after : List ℕ) (r : Begun) : Type 0 where
-  pub answer : begunAs r ≡ begin own peer start out
-  pub written : after ≡ beginOutput (begin own peer start out) own peer start out
+  pub answer : begun_as r ≡ begin own peer start out
+  pub written : after ≡ begin_output (begin own peer start out) own peer start out

@@ -1,6 +1,6 @@
 // The tests of a message's header, in the order of document 01.
 ghost use Rattle.std.specs.Prelude.{◌≡◌, ◌≤◌, length};
-ghost use Rattle.session.specs.Rules.{lengthOk, isInit, opens};
+ghost use Rattle.session.specs.Rules.{length_ok, is_init, opens};
 ghost use Rattle.session.specs.Parts.{Faults};
 ghost use Rattle.message.specs.Header.{kind};
 
@@ -30,7 +30,7 @@ fn wide(x: u32) -> usize
 // The length field is the number of bytes delivered, at most 5,000.
 fn length_ok(m: &[u8]) -> bool
     requires { 20 ≤ length m.now }
-    ensures { result ≡ lengthOk m.now }
+    ensures { result ≡ length_ok m.now }
 {
     if wide(octets::get32_at(m, 0)) != m.len() {
         return false;
@@ -64,7 +64,7 @@ pub fn header_fault(e: Session, m: &[u8]) -> u8
 // The message is a session init.
 fn is_init(m: &[u8]) -> bool
     requires { 20 ≤ length m.now }
-    ensures { result ≡ isInit (kind m.now) }
+    ensures { result ≡ is_init (kind m.now) }
 {
     match message::kind_of(m[TYPE_AT]) {
         Kind::Asks(_) => false,

@@ -2,15 +2,15 @@
 ghost use Rattle.std.specs.Prelude.{◌≡◌, ◌≤◌, true, length};
 ghost use Rattle.store.specs.Layout.{total, Bounded};
 ghost use Rattle.store.specs.Store.{sound};
-ghost use Rattle.refusal.specs.House.{houseNumber};
+ghost use Rattle.refusal.specs.House.{house_number};
 ghost use Rattle.message.specs.Header.{kind};
-ghost use Rattle.message.specs.Body.{bodyOk};
+ghost use Rattle.message.specs.Body.{body_ok};
 ghost use Rattle.session.specs.Sessions.{Begins, Closed, Open, closing, opening, remembering, replied};
-ghost use Rattle.session.specs.Rules.{receive, receiveIn, inState, judged, typeTest, repeats, obey, Does};
-ghost use Rattle.session.specs.Parts.{Refuses, Waits, Responds, Reports, workIfSound};
+ghost use Rattle.session.specs.Rules.{receive, receive_in, in_state, judged, type_test, repeats, obey, Does};
+ghost use Rattle.session.specs.Parts.{Refuses, Waits, Responds, Reports, work_if_sound};
 
 use crate::header::{header_fault, is_opening};
-use message::body::{REQ_NUM_AT, body_ok};
+use message::body::{REQ_NUM_AT, body_fits};
 use message::written::{HEAD, put_init, put_reply};
 use message::{Command, HEADER, Kind, SEQUENCE_AT, TRANSACTION_AT, TYPE_AT, Task};
 use refusal::Refusal;
@@ -228,7 +228,7 @@ impl Session {
     }
 
     fn refuse(self, h: Refusal) -> Turn
-        ensures { Refuses (houseNumber h) self result.answer result.session }
+        ensures { Refuses (house_number h) self result.answer result.session }
     {
         Turn {
             answer: Received::Refused(h),
@@ -261,7 +261,7 @@ impl Session {
 
     // The requests of a command, on a sound store. RESPONSE is 0, whatever the RESULTs.
     fn work(self, command: Command, lim: Limits, m: &[u8], s: &mut [u8], out: &mut [u8]) -> Turn
-        requires { (Bounded lim) × (sound lim s.old ≡ true) × (20 ≤ length m.now) × (bodyOk (Task.Requests command) m.now ≡ true) × (1032 ≤ length out.old) }
+        requires { (Bounded lim) × (sound lim s.old ≡ true) × (20 ≤ length m.now) × (body_ok (Task.Requests command) m.now ≡ true) × (1032 ≤ length out.old) }
         ensures { Does (obey lim (Task.Requests command) self m.now s.old out.old) result.answer result.session s.new out.new }
     {
         let n = octets::get16_at(m, REQ_NUM_AT);
@@ -278,8 +278,8 @@ impl Session {
         s: &mut [u8],
         out: &mut [u8],
     ) -> Turn
-        requires { (Bounded lim) × (20 ≤ length m.now) × (bodyOk (Task.Requests command) m.now ≡ true) × (1032 ≤ length out.old) }
-        ensures { Does (workIfSound lim command self m.now s.old out.old) result.answer result.session s.new out.new }
+        requires { (Bounded lim) × (20 ≤ length m.now) × (body_ok (Task.Requests command) m.now ≡ true) × (1032 ≤ length out.old) }
+        ensures { Does (work_if_sound lim command self m.now s.old out.old) result.answer result.session s.new out.new }
     {
         if !is_sound(s, lim) {
             return self.keep_with(Session::STORE_UNSOUND, m, out);
@@ -298,9 +298,9 @@ impl Session {
     // A message of one of the six types whose header is right.
     fn perform(self, task: Task, lim: Limits, m: &[u8], s: &mut [u8], out: &mut [u8]) -> Turn
         requires { (Bounded lim) × (length s.old ≡ total lim) × (20 ≤ length m.now) × (1032 ≤ length out.old) }
-        ensures { Does (judged (typeTest (Kind.Asks task) lim m.now s.old) lim self m.now s.old out.old) result.answer result.session s.new out.new }
+        ensures { Does (judged (type_test (Kind.Asks task) lim m.now s.old) lim self m.now s.old out.old) result.answer result.session s.new out.new }
     {
-        if !body_ok(task, m) {
+        if !body_fits(task, m) {
             return self.drop_with(Session::FORMAT_ERROR, m, out);
         }
         match task {
@@ -318,7 +318,7 @@ impl Session {
     // A message whose header is right and whose transaction number is another than the last, by its type.
     fn receive_typed(self, lim: Limits, m: &[u8], s: &mut [u8], out: &mut [u8]) -> Turn
         requires { (Bounded lim) × (length s.old ≡ total lim) × (20 ≤ length m.now) × (1032 ≤ length out.old) }
-        ensures { Does (judged (typeTest (kind m.now) lim m.now s.old) lim self m.now s.old out.old) result.answer result.session s.new out.new }
+        ensures { Does (judged (type_test (kind m.now) lim m.now s.old) lim self m.now s.old out.old) result.answer result.session s.new out.new }
     {
         match message::kind_of(m[TYPE_AT]) {
             Kind::Asks(task) => self.perform(task, lim, m, s, out),
@@ -340,7 +340,7 @@ impl Session {
     // A message to an open session. Refuses H4.
     fn receive_open(self, lim: Limits, m: &[u8], s: &mut [u8], out: &mut [u8]) -> Turn
         requires { (Bounded lim) × (length s.old ≡ total lim) × (1032 ≤ length out.old) }
-        ensures { Does (inState Open lim self m.now s.old out.old) result.answer result.session s.new out.new }
+        ensures { Does (in_state Open lim self m.now s.old out.old) result.answer result.session s.new out.new }
     {
         if m.len() < HEADER {
             return self.refuse(Refusal::MessageShort);
@@ -360,7 +360,7 @@ impl Session {
     // A message with a store of an edition. Refuses H2, H3, H4, H5.
     fn receive_in(self, lim: Limits, m: &[u8], s: &mut [u8], out: &mut [u8]) -> Turn
         requires { (Bounded lim) × (length s.old ≡ total lim) }
-        ensures { Does (receiveIn (Edition.Known lim) self m.now s.old out.old) result.answer result.session s.new out.new }
+        ensures { Does (receive_in (Edition.Known lim) self m.now s.old out.old) result.answer result.session s.new out.new }
     {
         let state = self.state;
         if out.len() < Session::OUTPUT_LEAST {

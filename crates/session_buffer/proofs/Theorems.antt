@@ -15,8 +15,8 @@ use Rattle.session.specs.Sessions.{State, Closed, Waiting, Open, up, closing, op
 use Rattle.session.specs.Rules.{Answered, reply, opened, ended, refused, Outcome, receive}
 use Rattle.session.proofs.SessionLaws.{begin-made}
 use Rattle.session.proofs.StateLaws.{session-ends}
-use Rattle.session.proofs.Theorems.{refusal-leaves-session}
-use Rattle.session_buffer.specs.SessionBuffer.{flag, sessionBytes, sessionOf, begunBuffer, writesSession, sessionAfter}
+use Rattle.session.proofs.Theorems.{refusal_leaves_session}
+use Rattle.session_buffer.specs.SessionBuffer.{flag, session_bytes, session_of, begun_buffer, writes_session, session_after}
 use Rattle.session_buffer.specs.Claims.{ReadAsWritten, ZerosAreClosed, RefusalLeavesBuffer, SessionsChain}
 
 -- ---- a session as bytes
@@ -31,8 +31,8 @@ nonzero-flag : (b : Bool) → nonzero (flag b) ≡ b
 nonzero-flag true = refl
 nonzero-flag false = refl
 
-pub read-as-written : ReadAsWritten
-read-as-written =
+pub read_as_written : ReadAsWritten
+read_as_written =
     record {
       same = λ e a b c d f g.
           let zeros : List ℕ = replicate 14 0 in
@@ -49,43 +49,43 @@ read-as-written =
           alike e.state n3 n4 n1 n2 (nonzero-flag e.remembered) n5;
     }
 
-pub zeros-are-closed : ZerosAreClosed
-zeros-are-closed = record { closed = refl }
+pub zeros_are_closed : ZerosAreClosed
+zeros_are_closed = record { closed = refl }
 
-pub refusal-leaves-buffer : RefusalLeavesBuffer
-refusal-leaves-buffer =
+pub refusal_leaves_buffer : RefusalLeavesBuffer
+refusal_leaves_buffer =
     record {
-      as_it_was = λ e m s out before n q f. ap (λ (a : Answered). cond (writesSession a) (sessionBytes (receive e m s out).session) before) q ∙ unwritten e m s out before n f;
+      as_it_was = λ e m s out before n q f. ap (λ (a : Answered). cond (writes_session a) (session_bytes (receive e m s out).session) before) q ∙ unwritten e m s out before n f;
       closed = λ e m s out before q.
-          ap (λ (a : Answered). cond (writesSession a) (sessionBytes (receive e m s out).session) before) q ∙ ap sessionBytes (refusal-leaves-session.closed e m s out q);
+          ap (λ (a : Answered). cond (writes_session a) (session_bytes (receive e m s out).session) before) q ∙ ap session_bytes (refusal_leaves_session.closed e m s out q);
     }
   where
-    unwritten : (e : Session) (m s out before : List ℕ) (n : ℕ) → (n ≡ 5 → ⊥) → cond (eqb n 5) (sessionBytes (receive e m s out).session) before ≡ before
-    unwritten e m s out before n f = ap (λ (b : Bool). cond b (sessionBytes (receive e m s out).session) before) (ne_eqb n 5 f)
+    unwritten : (e : Session) (m s out before : List ℕ) (n : ℕ) → (n ≡ 5 → ⊥) → cond (eqb n 5) (session_bytes (receive e m s out).session) before ≡ before
+    unwritten e m s out before n f = ap (λ (b : Bool). cond b (session_bytes (receive e m s out).session) before) (ne_eqb n 5 f)
 
 -- ---- calls chain
 
 -- the fields fit their bytes
 record Fitting (e : Session) : Type 0 where
-  state-fits : e.state < 256
+  state_fits : e.state < 256
   next_fits : e.next < 65536
-  expected-fits : e.expected < 65536
-  own-fits : e.own < 4294967296
-  peer-fits : e.peer < 4294967296
-  transaction-fits : e.transaction < 4294967296
+  expected_fits : e.expected < 65536
+  own_fits : e.own < 4294967296
+  peer_fits : e.peer < 4294967296
+  transaction_fits : e.transaction < 4294967296
 
-sessionOf-sessionBytes : (e : Session) → Fitting e → sessionOf (sessionBytes e) ≡ e
-sessionOf-sessionBytes e f = read-as-written.same e f.state-fits f.next_fits f.expected-fits f.own-fits f.peer-fits f.transaction-fits
+session_of-session_bytes : (e : Session) → Fitting e → session_of (session_bytes e) ≡ e
+session_of-session_bytes e f = read_as_written.same e f.state_fits f.next_fits f.expected_fits f.own_fits f.peer_fits f.transaction_fits
 
-sessionOf-fits : (b : List ℕ) → Bytes b → Fitting (sessionOf b)
-sessionOf-fits b h =
+session_of-fits : (b : List ℕ) → Bytes b → Fitting (session_of b)
+session_of-fits b h =
     record {
-      state-fits = h 0;
+      state_fits = h 0;
       next_fits = get16-fits b h 2;
-      expected-fits = get16-fits b h 4;
-      own-fits = get32-fits b h 6;
-      peer-fits = get32-fits b h 10;
-      transaction-fits = get32-fits b h 14;
+      expected_fits = get16-fits b h 4;
+      own_fits = get32-fits b h 6;
+      peer_fits = get32-fits b h 10;
+      transaction_fits = get32-fits b h 14;
     }
 
 module _ (e : Session) (f : Fitting e) where
@@ -93,53 +93,53 @@ module _ (e : Session) (f : Fitting e) where
   moved-fits : (state next expected : ℕ) (remembered : Bool) (transaction : ℕ) → state < 256 → next < 65536 → expected < 65536 → transaction < 4294967296
       → Fitting (record { state = state; own = e.own; peer = e.peer; next = next; expected = expected; remembered = remembered; transaction = transaction })
   moved-fits state next expected remembered transaction a b c d =
-      record { state-fits = a; next_fits = b; expected-fits = c; own-fits = f.own-fits; peer-fits = f.peer-fits; transaction-fits = d }
+      record { state_fits = a; next_fits = b; expected_fits = c; own_fits = f.own_fits; peer_fits = f.peer_fits; transaction_fits = d }
 
   replied-fits : (then : State) → Fitting (replied e then)
-  replied-fits Closed = moved-fits 0 (up e.next) e.expected e.remembered e.transaction (lit< tt) (omega arith) f.expected-fits f.transaction-fits
-  replied-fits Waiting = moved-fits 1 (up e.next) e.expected e.remembered e.transaction (lit< tt) (omega arith) f.expected-fits f.transaction-fits
-  replied-fits Open = moved-fits 2 (up e.next) (up e.expected) e.remembered e.transaction (lit< tt) (omega arith) (omega arith) f.transaction-fits
+  replied-fits Closed = moved-fits 0 (up e.next) e.expected e.remembered e.transaction (lit< tt) (omega arith) f.expected_fits f.transaction_fits
+  replied-fits Waiting = moved-fits 1 (up e.next) e.expected e.remembered e.transaction (lit< tt) (omega arith) f.expected_fits f.transaction_fits
+  replied-fits Open = moved-fits 2 (up e.next) (up e.expected) e.remembered e.transaction (lit< tt) (omega arith) (omega arith) f.transaction_fits
 
   closing-fits : Fitting (closing e)
-  closing-fits = moved-fits 0 e.next e.expected e.remembered e.transaction (lit< tt) f.next_fits f.expected-fits f.transaction-fits
+  closing-fits = moved-fits 0 e.next e.expected e.remembered e.transaction (lit< tt) f.next_fits f.expected_fits f.transaction_fits
 
   opening-fits : (n : ℕ) → Fitting (opening e n)
   opening-fits n = moved-fits 2 e.next (up n) false 0 (lit< tt) f.next_fits (omega arith) (lit< tt)
 
   remembering-fits : (n : ℕ) → n < 4294967296 → Fitting (remembering e n)
-  remembering-fits n h = moved-fits e.state e.next e.expected true n f.state-fits f.next_fits f.expected-fits h
+  remembering-fits n h = moved-fits e.state e.next e.expected true n f.state_fits f.next_fits f.expected_fits h
 
 receive-fits : (e : Session) → Fitting e → (m s out : List ℕ) → Bytes m → Fitting (receive e m s out).session
 receive-fits e f m s out h =
     session-ends Fitting e m s out f (remembering-fits e f _ (get32-fits m h _)) closing-fits (opening-fits e f) (λ d then g. replied-fits d g then)
 
 -- the buffer after an outcome is read as its session: where it is written, and where a refusal leaves both
-sessionOf-sessionAfter : (o : Outcome) (b : List ℕ) → Fitting o.session → (a : Answered) → o.answer ≡ a → ((n : ℕ) → o.answer ≡ refused n → (n ≡ 5 → ⊥) → o.session ≡ sessionOf b)
-    → sessionOf (sessionAfter o b) ≡ o.session
-sessionOf-sessionAfter o b f (reply n) q k = rw q (sessionOf-sessionBytes o.session f)
-sessionOf-sessionAfter o b f opened q k = rw q (sessionOf-sessionBytes o.session f)
-sessionOf-sessionAfter o b f ended q k = rw q (sessionOf-sessionBytes o.session f)
-sessionOf-sessionAfter o b f (refused n) q k = rw q (go (eqb n 5) refl)
+session_of-session_after : (o : Outcome) (b : List ℕ) → Fitting o.session → (a : Answered) → o.answer ≡ a → ((n : ℕ) → o.answer ≡ refused n → (n ≡ 5 → ⊥) → o.session ≡ session_of b)
+    → session_of (session_after o b) ≡ o.session
+session_of-session_after o b f (reply n) q k = rw q (session_of-session_bytes o.session f)
+session_of-session_after o b f opened q k = rw q (session_of-session_bytes o.session f)
+session_of-session_after o b f ended q k = rw q (session_of-session_bytes o.session f)
+session_of-session_after o b f (refused n) q k = rw q (go (eqb n 5) refl)
   where
-    go : (five : Bool) → eqb n 5 ≡ five → sessionOf (cond five (sessionBytes o.session) b) ≡ o.session
-    go true h = sessionOf-sessionBytes o.session f
+    go : (five : Bool) → eqb n 5 ≡ five → session_of (cond five (session_bytes o.session) b) ≡ o.session
+    go true h = session_of-session_bytes o.session f
     go false h = sym (k n q (eqb-false n 5 h))
 
 begin-fits : (own peer number : ℕ) (out : List ℕ) (e : Session) (n : ℕ) → own < 4294967296 → peer < 4294967296 → begin own peer number out ≡ begins e n → Fitting e
 begin-fits own peer number out e n h k q =
     subst Fitting (begin-made own peer number out e n q).0
-    (record { state-fits = lit< tt; next_fits = omega arith; expected-fits = lit< tt; own-fits = h; peer-fits = k; transaction-fits = lit< tt })
+    (record { state_fits = lit< tt; next_fits = omega arith; expected_fits = lit< tt; own_fits = h; peer_fits = k; transaction_fits = lit< tt })
 
-pub sessions-chain : SessionsChain
-sessions-chain =
+pub sessions_chain : SessionsChain
+sessions_chain =
     record {
-      of-message = chained;
-      of-receive = λ b m s out h k told after store output t. ap sessionOf t.session-is ∙ chained b m s out h k;
-      of-begin = λ own peer number out b h k e n q. ap (λ (x : Beginning). sessionOf (begunBuffer x b)) q ∙ sessionOf-sessionBytes e (begin-fits own peer number out e n h k q);
-      of-refused-begin = λ own peer number out b n q. ap (λ (x : Beginning). sessionOf (begunBuffer x b)) q;
+      of_message = chained;
+      of_receive = λ b m s out h k told after store output t. ap session_of t.session_is ∙ chained b m s out h k;
+      of_begin = λ own peer number out b h k e n q. ap (λ (x : Beginning). session_of (begun_buffer x b)) q ∙ session_of-session_bytes e (begin-fits own peer number out e n h k q);
+      of_refused_begin = λ own peer number out b n q. ap (λ (x : Beginning). session_of (begun_buffer x b)) q;
     }
   where
-    chained : (b m s out : List ℕ) → Bytes b → Bytes m → sessionOf (sessionAfter (receive (sessionOf b) m s out) b) ≡ (receive (sessionOf b) m s out).session
+    chained : (b m s out : List ℕ) → Bytes b → Bytes m → session_of (session_after (receive (session_of b) m s out) b) ≡ (receive (session_of b) m s out).session
     chained b m s out h k =
-        let e : Session = sessionOf b in
-        sessionOf-sessionAfter (receive e m s out) b (receive-fits e (sessionOf-fits b h) m s out k) (receive e m s out).answer refl (refusal-leaves-session.as_it_was e m s out)
+        let e : Session = session_of b in
+        session_of-session_after (receive e m s out) b (receive-fits e (session_of-fits b h) m s out k) (receive e m s out).answer refl (refusal_leaves_session.as_it_was e m s out)

@@ -14,16 +14,16 @@ flag true = 1
 flag false = 0
 
 -- the state, byte 1, the own next number, the number expected next, own identity, peer identity, the transaction number, zeros
-abbrev pub bytesWith : ℕ → Session → List ℕ
-bytesWith byte1 e = e.state ∷ byte1 ∷ be16 e.next ++ (be16 e.expected ++ (be32 e.own ++ (be32 e.peer ++ (be32 e.transaction ++ replicate 14 0))))
+abbrev pub bytes_with : ℕ → Session → List ℕ
+bytes_with byte1 e = e.state ∷ byte1 ∷ be16 e.next ++ (be16 e.expected ++ (be32 e.own ++ (be32 e.peer ++ (be32 e.transaction ++ replicate 14 0))))
 
 -- byte 1 is the flag
-abbrev pub sessionBytes : Session → List ℕ
-sessionBytes e = bytesWith (flag e.remembered) e
+abbrev pub session_bytes : Session → List ℕ
+session_bytes e = bytes_with (flag e.remembered) e
 
 -- any flag but 0 is 1
-abbrev pub sessionOf : List ℕ → Session
-sessionOf b =
+abbrev pub session_of : List ℕ → Session
+session_of b =
     record {
       state = get_or b 0 0;
       own = get32 b 6;
@@ -37,34 +37,34 @@ sessionOf b =
 -- ---- begin
 
 -- C is told the length written
-abbrev pub begunLength : Beginning → Answer
-begunLength (begins e n) = gives n
-begunLength (refuses n) = house n
+abbrev pub begun_length : Beginning → Answer
+begun_length (begins e n) = gives n
+begun_length (refuses n) = house n
 
 -- a refusal leaves the buffer
-abbrev pub begunBuffer : Beginning → List ℕ → List ℕ
-begunBuffer (begins e n) old = sessionBytes e
-begunBuffer (refuses n) old = old
+abbrev pub begun_buffer : Beginning → List ℕ → List ℕ
+begun_buffer (begins e n) old = session_bytes e
+begun_buffer (refuses n) old = old
 
 -- ---- receive
 
 -- C is told the length of the reply, and 0 where there is none
-abbrev pub replyLength : Answered → Answer
-replyLength (reply n) = gives n
-replyLength opened = gives 0
-replyLength ended = gives 0
-replyLength (refused n) = house n
+abbrev pub reply_length : Answered → Answer
+reply_length (reply n) = gives n
+reply_length opened = gives 0
+reply_length ended = gives 0
+reply_length (refused n) = house n
 
 -- a refusal leaves the buffer, but H5, which closes the session
-abbrev pub writesSession : Answered → Bool
-writesSession (reply n) = true
-writesSession opened = true
-writesSession ended = true
-writesSession (refused n) = eqb n 5
+abbrev pub writes_session : Answered → Bool
+writes_session (reply n) = true
+writes_session opened = true
+writes_session ended = true
+writes_session (refused n) = eqb n 5
 
 -- the buffer after an outcome
-abbrev pub sessionAfter : Outcome → List ℕ → List ℕ
-sessionAfter o before = cond (writesSession o.answer) (sessionBytes o.session) before
+abbrev pub session_after : Outcome → List ℕ → List ℕ
+session_after o before = cond (writes_session o.answer) (session_bytes o.session) before
 
 -- a length that C can be told: 31 bits
 pub record Short (a : Answered) : Type 0 where
@@ -72,7 +72,7 @@ pub record Short (a : Answered) : Type 0 where
 
 -- what C is told of an outcome, and every byte that it lent
 pub record Tells (o : Outcome) (told : ℤ) (before after store output : List ℕ) : Type 0 where
-  pub answer-is : told ≡ code (replyLength o.answer)
-  pub session-is : after ≡ sessionAfter o before
+  pub answer_is : told ≡ code (reply_length o.answer)
+  pub session_is : after ≡ session_after o before
   pub store_is : store ≡ o.store
-  pub output-is : output ≡ o.output
+  pub output_is : output ≡ o.output

@@ -1,7 +1,7 @@
 // The session as C keeps it.
 ghost use Rattle.std.specs.Prelude.{◌≡◌};
-ghost use Rattle.session.specs.Rules.{receivedAs};
-ghost use Rattle.session_buffer.specs.SessionBuffer.{flag, bytesWith, sessionBytes, sessionOf, writesSession};
+ghost use Rattle.session.specs.Rules.{received_as};
+ghost use Rattle.session_buffer.specs.SessionBuffer.{flag, bytes_with, session_bytes, session_of, writes_session};
 
 use refusal::house_number;
 use session::{Received, Session};
@@ -10,7 +10,7 @@ use session::{Received, Session};
 const NO_SESSION_INIT: u8 = 5;
 
 pub fn load(buffer: &[u8; 32]) -> Session
-    ensures { result ≡ sessionOf buffer.now }
+    ensures { result ≡ session_of buffer.now }
 {
     let state = buffer[0];
     let remembered = buffer[1] != 0;
@@ -40,7 +40,7 @@ fn flag(remembered: bool) -> u8
 }
 
 fn bytes_with(byte1: u8, session: Session) -> [u8; 32]
-    ensures { result ≡ bytesWith byte1 session }
+    ensures { result ≡ bytes_with byte1 session }
 {
     [
         session.state,
@@ -79,14 +79,14 @@ fn bytes_with(byte1: u8, session: Session) -> [u8; 32]
 }
 
 pub fn bytes_of(session: Session) -> [u8; 32]
-    ensures { result ≡ sessionBytes session }
+    ensures { result ≡ session_bytes session }
 {
     bytes_with(flag(session.remembered), session)
 }
 
 // Whether the session is written after an answer.
 pub fn is_written(answer: Received) -> bool
-    ensures { result ≡ writesSession (receivedAs answer) }
+    ensures { result ≡ writes_session (received_as answer) }
 {
     match answer {
         Received::Reply(n) => true,

@@ -1,9 +1,9 @@
 // Sessions on a buffer as a host lends it: a session of 32 bytes. Each call is the one of `session`, on the session that the buffer holds.
 ghost use Rattle.std.specs.Prelude.{◌≡◌};
 ghost use Rattle.refusal.specs.Code.{code};
-ghost use Rattle.session.specs.Sessions.{begin, beginOutput};
-ghost use Rattle.session.specs.Rules.{receive, receivedAs};
-ghost use Rattle.session_buffer.specs.SessionBuffer.{sessionOf, begunLength, begunBuffer, replyLength, Short, Tells};
+ghost use Rattle.session.specs.Sessions.{begin, begin_output};
+ghost use Rattle.session.specs.Rules.{receive, received_as};
+ghost use Rattle.session_buffer.specs.SessionBuffer.{session_of, begun_length, begun_buffer, reply_length, Short, Tells};
 
 use crate::buffers::{bytes_of, is_written, load};
 use refusal::refusal_code;
@@ -13,9 +13,9 @@ mod buffers;
 
 // Begins a session: writes the session init to the front of out, and the session.
 pub fn begin(own: u32, peer: u32, number: u16, session: &mut [u8; 32], out: &mut [u8]) -> i32
-    ensures value { result ≡ code (begunLength (begin own peer number out.old)) }
-    ensures session_after { session.new ≡ begunBuffer (begin own peer number out.old) session.old }
-    ensures out_after { out.new ≡ beginOutput (begin own peer number out.old) own peer number out.old }
+    ensures value { result ≡ code (begun_length (begin own peer number out.old)) }
+    ensures session_after { session.new ≡ begun_buffer (begin own peer number out.old) session.old }
+    ensures out_after { out.new ≡ begin_output (begin own peer number out.old) own peer number out.old }
 {
     match Session::begin(own, peer, number, out) {
         Begun::Made(made, n) => {
@@ -28,8 +28,8 @@ pub fn begin(own: u32, peer: u32, number: u16, session: &mut [u8; 32], out: &mut
 
 // What C is told of an answer to a message.
 fn told(answer: Received) -> i32
-    requires { Short (receivedAs answer) }
-    ensures { result ≡ code (replyLength (receivedAs answer)) }
+    requires { Short (received_as answer) }
+    ensures { result ≡ code (reply_length (received_as answer)) }
 {
     match answer {
         Received::Reply(n) => n as i32,
@@ -41,7 +41,7 @@ fn told(answer: Received) -> i32
 
 // Takes a message: works it on the store, and writes the reply to the front of out, and the session.
 pub fn receive(session: &mut [u8; 32], message: &[u8], store: &mut [u8], out: &mut [u8]) -> i32
-    ensures { Tells (receive (sessionOf session.old) message.now store.old out.old) result session.old session.new store.new out.new }
+    ensures { Tells (receive (session_of session.old) message.now store.old out.old) result session.old session.new store.new out.new }
 {
     let before = load(session);
     let turn = before.receive(message, store, out);

@@ -1,6 +1,6 @@
 // Connection set-up (SUBSET-037-2, 6.2.6): one connection, as caller or called, on a KMAC of the store. Each call that hands back a step is an event of Table 20, with a match on the state of which each arm is a square; `unit` matches on the kind, and its squares ask for the state.
 ghost use Rattle.std.specs.Prelude.{◌≡◌};
-ghost use Rattle.table.specs.Steps.{Does, step, connectRequest, connectResponse, dataRequest, disconnectRequest, connectIndication, connectConfirmation, disconnectIndication, unitIndication, timeOut, handedUp, kind_of, kindNumbered};
+ghost use Rattle.table.specs.Steps.{Does, step, connect_request, connect_response, data_request, disconnect_request, connect_indication, connect_confirmation, disconnect_indication, unit_indication, time_out, handed_up, kind_of, kind_numbered};
 
 use authentication::DATA_MOST;
 use octets::between;
@@ -27,7 +27,7 @@ pub fn request(
     store: &[u8],
     out: &mut [u8],
 ) -> Step
-    ensures { Does (step (connectRequest acceptable own peer t rb store.now) c out.old) result.answer result.connection out.new }
+    ensures { Does (step (connect_request acceptable own peer t rb store.now) c out.old) result.answer result.connection out.new }
 {
     if out.len() < Connection::OUTPUT_LEAST {
         return refuse(c, Refusal::OutputLength);
@@ -44,7 +44,7 @@ pub fn request(
 
 // Sa-CONNECT.response: sends AR. Refuses H2.
 pub fn respond(c: Connection, out: &mut [u8]) -> Step
-    ensures { Does (step connectResponse c out.old) result.answer result.connection out.new }
+    ensures { Does (step connect_response c out.old) result.answer result.connection out.new }
 {
     if out.len() < Connection::OUTPUT_LEAST {
         return refuse(c, Refusal::OutputLength);
@@ -61,7 +61,7 @@ pub fn respond(c: Connection, out: &mut [u8]) -> Step
 
 // Sa-DATA.request: sends DT. Refuses H2, H10.
 pub fn send(c: Connection, user: &[u8], out: &mut [u8]) -> Step
-    ensures { Does (step (dataRequest user.now) c out.old) result.answer result.connection out.new }
+    ensures { Does (step (data_request user.now) c out.old) result.answer result.connection out.new }
 {
     if out.len() < Connection::OUTPUT_LEAST {
         return refuse(c, Refusal::OutputLength);
@@ -81,7 +81,7 @@ pub fn send(c: Connection, user: &[u8], out: &mut [u8]) -> Step
 
 // Sa-DISCONNECT.request, with a reason and a sub-reason for the peer. Refuses H2.
 pub fn release(c: Connection, reason: u8, sub: u8, out: &mut [u8]) -> Step
-    ensures { Does (step (disconnectRequest reason sub) c out.old) result.answer result.connection out.new }
+    ensures { Does (step (disconnect_request reason sub) c out.old) result.answer result.connection out.new }
 {
     if out.len() < Connection::OUTPUT_LEAST {
         return refuse(c, Refusal::OutputLength);
@@ -109,7 +109,7 @@ pub fn indicated(
     store: &[u8],
     out: &mut [u8],
 ) -> Step
-    ensures { Does (step (connectIndication acceptable own t ra unit.now store.now) c out.old) result.answer result.connection out.new }
+    ensures { Does (step (connect_indication acceptable own t ra unit.now store.now) c out.old) result.answer result.connection out.new }
 {
     if out.len() < Connection::OUTPUT_LEAST {
         return refuse(c, Refusal::OutputLength);
@@ -126,7 +126,7 @@ pub fn indicated(
 
 // T-CONNECT.confirmation with an AU2: sends AU3. Refuses H2.
 pub fn confirmed(c: Connection, unit: &[u8], out: &mut [u8]) -> Step
-    ensures { Does (step (connectConfirmation unit.now) c out.old) result.answer result.connection out.new }
+    ensures { Does (step (connect_confirmation unit.now) c out.old) result.answer result.connection out.new }
 {
     if out.len() < Connection::OUTPUT_LEAST {
         return refuse(c, Refusal::OutputLength);
@@ -143,7 +143,7 @@ pub fn confirmed(c: Connection, unit: &[u8], out: &mut [u8]) -> Step
 
 // T-DISCONNECT.indication, with a DI where the unit is not empty. Refuses H2.
 pub fn disconnected(c: Connection, reason: u8, unit: &[u8], out: &mut [u8]) -> Step
-    ensures { Does (step (disconnectIndication reason unit.now) c out.old) result.answer result.connection out.new }
+    ensures { Does (step (disconnect_indication reason unit.now) c out.old) result.answer result.connection out.new }
 {
     if out.len() < Connection::OUTPUT_LEAST {
         return refuse(c, Refusal::OutputLength);
@@ -160,7 +160,7 @@ pub fn disconnected(c: Connection, reason: u8, unit: &[u8], out: &mut [u8]) -> S
 
 // An AU3, AR or DT, by T-DATA.indication. Refuses H2.
 pub fn unit(c: Connection, kind: Kind, unit: &[u8], out: &mut [u8]) -> Step
-    ensures { Does (step (unitIndication kind unit.now) c out.old) result.answer result.connection out.new }
+    ensures { Does (step (unit_indication kind unit.now) c out.old) result.answer result.connection out.new }
 {
     if out.len() < Connection::OUTPUT_LEAST {
         return refuse(c, Refusal::OutputLength);
@@ -174,7 +174,7 @@ pub fn unit(c: Connection, kind: Kind, unit: &[u8], out: &mut [u8]) -> Step
 
 // With what `unit` takes: the user data that go up, as a part of the unit; empty where none do.
 pub fn user_data<'u, 'o>(c: Connection, kind: Kind, unit: &'u [u8], out: &'o [u8]) -> &'u [u8]
-    ensures { result.now ≡ handedUp (step (unitIndication kind unit.now) c out.now).answer unit.now }
+    ensures { result.now ≡ handed_up (step (unit_indication kind unit.now) c out.now).answer unit.now }
 {
     if out.len() < Connection::OUTPUT_LEAST {
         return &unit[..0];
@@ -190,7 +190,7 @@ pub fn user_data<'u, 'o>(c: Connection, kind: Kind, unit: &'u [u8], out: &'o [u8
 
 // The time-out of T estab. Refuses H2.
 pub fn time_out(c: Connection, out: &mut [u8]) -> Step
-    ensures { Does (step timeOut c out.old) result.answer result.connection out.new }
+    ensures { Does (step time_out c out.old) result.answer result.connection out.new }
 {
     if out.len() < Connection::OUTPUT_LEAST {
         return refuse(c, Refusal::OutputLength);
@@ -229,7 +229,7 @@ pub fn kind_of(unit: &[u8]) -> Kind
 
 // The same by the number that a host gives; any other is taken as a DT.
 pub fn kind_numbered(n: u8) -> Kind
-    ensures { result ≡ kindNumbered n }
+    ensures { result ≡ kind_numbered n }
 {
     if n == AU3_NUMBER {
         return Kind::Au3;

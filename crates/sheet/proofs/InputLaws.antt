@@ -14,78 +14,78 @@ use borrow.Author.Tests.{eq-eqb, ne_eqb, le-leb, lt-leb, leb-true}
 use Rattle.octets.specs.Bytes.{part, splice}
 use Rattle.octets.proofs.SpliceLaws.{splice-take}
 use Rattle.octets.proofs.BoolLaws.{and_left, and_right}
-use Rattle.lines.specs.Digits.{areDigits, numeral}
-use Rattle.lines.specs.Words.{before, firstFrom, First}
+use Rattle.lines.specs.Digits.{are_digits, numeral}
+use Rattle.lines.specs.Words.{before, first_from, First}
 use Rattle.lines.specs.declared.words.Class.TheVariants.{LineEnd}
 use Rattle.lines.proofs.HexLaws.{take-least}
 use Rattle.sheet.specs.declared.input.Moment.TheVariants as moment
-use Rattle.sheet.specs.Input.{momentOf, hasZero, isName, upToEnd, TakesLine}
+use Rattle.sheet.specs.Input.{moment_of, has_zero, is_name, up_to_end, TakesLine}
 
 -- ---- the moment
 
-pub moment-length : (s : List ℕ) → (length s ≡ 8 → ⊥) → moment.Bad ≡ momentOf s
-unfolding momentOf
-moment-length s h = rw (ne_eqb (length s) 8 h)
+pub moment_length : (s : List ℕ) → (length s ≡ 8 → ⊥) → moment.Bad ≡ moment_of s
+unfolding moment_of
+moment_length s h = rw (ne_eqb (length s) 8 h)
 
-pub moment-digits : (s : List ℕ) → length s ≡ 8 → areDigits 16 s ≡ false → moment.Bad ≡ momentOf s
-unfolding momentOf
-moment-digits s h d = rw (eq-eqb (length s) 8 h, d)
+pub moment_digits : (s : List ℕ) → length s ≡ 8 → are_digits 16 s ≡ false → moment.Bad ≡ moment_of s
+unfolding moment_of
+moment_digits s h d = rw (eq-eqb (length s) 8 h, d)
 
-pub moment-read : (s : List ℕ) (t : ℕ) → length s ≡ 8 → areDigits 16 s ≡ true → t ≡ numeral 16 0 s → moment.At t ≡ momentOf s
-unfolding momentOf
-moment-read s t h d e = rw (eq-eqb (length s) 8 h, d) (ap moment.At e)
+pub moment_read : (s : List ℕ) (t : ℕ) → length s ≡ 8 → are_digits 16 s ≡ true → t ≡ numeral 16 0 s → moment.At t ≡ moment_of s
+unfolding moment_of
+moment_read s t h d e = rw (eq-eqb (length s) 8 h, d) (ap moment.At e)
 
 -- ---- names
 
 module _ (s : List ℕ) (i : ℕ) where
-  zero-open : i < length s → hasZero (drop i s) ≡ (eqb (get_or s i 0) 0 || hasZero (drop (i + 1) s))
-  unfolding hasZero
-  zero-open h = rw (add-one, drop-cons s i 0 h)
+  zero_open : i < length s → has_zero (drop i s) ≡ (eqb (get_or s i 0) 0 || has_zero (drop (i + 1) s))
+  unfolding has_zero
+  zero_open h = rw (add-one, drop-cons s i 0 h)
 
-  pub zero-here : i < length s → get_or s i 0 ≡ 0 → hasZero (drop i s) ≡ true
-  zero-here h e = zero-open h ∙ ap (λ (b : Bool). b || hasZero (drop (i + 1) s)) (eq-eqb (get_or s i 0) 0 e)
+  pub zero-here : i < length s → get_or s i 0 ≡ 0 → has_zero (drop i s) ≡ true
+  zero-here h e = zero_open h ∙ ap (λ (b : Bool). b || has_zero (drop (i + 1) s)) (eq-eqb (get_or s i 0) 0 e)
 
-  pub zero_turn : i < length s → (get_or s i 0 ≡ 0 → ⊥) → hasZero (drop i s) ≡ hasZero (drop (i + 1) s)
-  zero_turn h e = zero-open h ∙ ap (λ (b : Bool). b || hasZero (drop (i + 1) s)) (ne_eqb (get_or s i 0) 0 e)
+  pub zero_turn : i < length s → (get_or s i 0 ≡ 0 → ⊥) → has_zero (drop i s) ≡ has_zero (drop (i + 1) s)
+  zero_turn h e = zero_open h ∙ ap (λ (b : Bool). b || has_zero (drop (i + 1) s)) (ne_eqb (get_or s i 0) 0 e)
 
-  pub zero-end : length s ≤ i → hasZero (drop i s) ≡ false
-  unfolding hasZero
+  pub zero-end : length s ≤ i → has_zero (drop i s) ≡ false
+  unfolding has_zero
   zero-end h = rw (drop_of_length-le s h)
 
-pub name-empty : (s : List ℕ) → length s ≡ 0 → false ≡ isName s
-unfolding isName
-name-empty s h = rw (eq-eqb (length s) 0 h)
+pub name_empty : (s : List ℕ) → length s ≡ 0 → false ≡ is_name s
+unfolding is_name
+name_empty s h = rw (eq-eqb (length s) 0 h)
 
-pub name-long : (s : List ℕ) → (length s ≡ 0 → ⊥) → 255 < length s → false ≡ isName s
-unfolding isName
-name-long s z h = rw (ne_eqb (length s) 0 z, lt-leb (length s) 255 h)
+pub name_long : (s : List ℕ) → (length s ≡ 0 → ⊥) → 255 < length s → false ≡ is_name s
+unfolding is_name
+name_long s z h = rw (ne_eqb (length s) 0 z, lt-leb (length s) 255 h)
 
-pub name-judged : (s : List ℕ) (b : Bool) → (length s ≡ 0 → ⊥) → length s ≤ 255 → b ≡ hasZero s → not b ≡ isName s
-unfolding isName
-name-judged s b z h e = rw (ne_eqb (length s) 0 z, le-leb (length s) 255 h) (ap not e)
+pub name_judged : (s : List ℕ) (b : Bool) → (length s ≡ 0 → ⊥) → length s ≤ 255 → b ≡ has_zero s → not b ≡ is_name s
+unfolding is_name
+name_judged s b z h e = rw (ne_eqb (length s) 0 z, le-leb (length s) 255 h) (ap not e)
 
-pub name-short : (s : List ℕ) → isName s ≡ true → length s ≤ 255
-unfolding isName
-name-short s e =
+pub name_short : (s : List ℕ) → is_name s ≡ true → length s ≤ 255
+unfolding is_name
+name_short s e =
     leb-true (length s) 255
-    (and_left (leb (length s) 255) (not (hasZero s)) (and_right (not (eqb (length s) 0)) (leb (length s) 255 && not (hasZero s)) e))
+    (and_left (leb (length s) 255) (not (has_zero s)) (and_right (not (eqb (length s) 0)) (leb (length s) 255 && not (has_zero s)) e))
 
 -- ---- lines
 
 module _ (line : List ℕ) (filled : ℕ) (chunk : List ℕ) (at : ℕ) (e k : ℕ) (line' : List ℕ) (room : filled ≤ length line) (first : First LineEnd chunk at e)
     (k-is : k ≡ min (e - at) (length line - filled)) (copied : line' ≡ splice line filled (part chunk at k)) where
   b-is : before LineEnd (drop at chunk) ≡ e - at
-  unfolding firstFrom
+  unfolding first_from
   b-is = omega (arith, first.is)
 
-  kept_line : take (filled + k) line' ≡ take (length line) (take filled line ++ upToEnd (drop at chunk))
+  kept_line : take (filled + k) line' ≡ take (length line) (take filled line ++ up_to_end (drop at chunk))
   unfolding part
   kept_line =
       let A : List ℕ = take filled line in
       let u : List ℕ = take (e - at) (drop at chunk) in
       let m : ℕ = length line - filled in
       let lx : length (drop at chunk) ≡ length chunk - at = length-drop at chunk in
-      let lA : length A ≡ filled = length-take-le filled line room in
+      let l_a : length A ≡ filled = length-take-le filled line room in
       let lu : length u ≡ e - at = length-take-le (e - at) (drop at chunk) (omega (arith, first.most, first.least)) in
       let kb : k ≤ e - at = omega (arith, min-le_left (e - at) m) in
       let lv : length (take k (drop at chunk)) ≡ k = length-take-le k (drop at chunk) (omega (arith, first.most, first.least)) in
@@ -98,8 +98,8 @@ module _ (line : List ℕ) (filled : ℕ) (chunk : List ℕ) (at : ℕ) (e k : �
       ∙ take-append-add A u m
       ∙ ap (λ (x : List ℕ). A ++ x) (sym (take-least u k m ku) ∙ take-take k (e - at) (drop at chunk) kb))
 
-  pub line-ended : e < length chunk → TakesLine line filled chunk at line' (record { at = e + 1; filled = filled + k; ended = true })
-  line-ended h =
+  pub line_ended : e < length chunk → TakesLine line filled chunk at line' (record { at = e + 1; filled = filled + k; ended = true })
+  line_ended h =
       let lx : length (drop at chunk) ≡ length chunk - at = length-drop at chunk in
       let l : before LineEnd (drop at chunk) < length (drop at chunk) = omega (arith, b-is, first.least) in
       let n : at + (before LineEnd (drop at chunk) + 1) ≡ e + 1 = omega (arith, b-is, first.least) in
@@ -107,13 +107,13 @@ module _ (line : List ℕ) (filled : ℕ) (chunk : List ℕ) (at : ℕ) (e k : �
         kept = kept_line;
         ended_is = sym (ap not (lt-leb (length (drop at chunk)) (before LineEnd (drop at chunk)) l));
         rest = sym (drop-drop (before LineEnd (drop at chunk) + 1) at chunk ∙ ap (λ (x : ℕ). drop x chunk) n);
-        filled-fits = omega (arith, k-is, min-le_right (e - at) (length line - filled));
-        at-fits = omega arith;
+        filled_fits = omega (arith, k-is, min-le_right (e - at) (length line - filled));
+        at_fits = omega arith;
         moves = λ _. omega (arith, first.least);
       }
 
-  pub line-open : length chunk ≤ e → TakesLine line filled chunk at line' (record { at = e; filled = filled + k; ended = false })
-  line-open h =
+  pub line_open : length chunk ≤ e → TakesLine line filled chunk at line' (record { at = e; filled = filled + k; ended = false })
+  line_open h =
       let lx : length (drop at chunk) ≡ length chunk - at = length-drop at chunk in
       let l : length (drop at chunk) ≤ before LineEnd (drop at chunk) = omega (arith, b-is, first.least) in
       let l2 : length (drop at chunk) ≤ before LineEnd (drop at chunk) + 1 = omega arith in
@@ -121,7 +121,7 @@ module _ (line : List ℕ) (filled : ℕ) (chunk : List ℕ) (at : ℕ) (e k : �
         kept = kept_line;
         ended_is = sym (ap not (le-leb (length (drop at chunk)) (before LineEnd (drop at chunk)) l));
         rest = drop_of_length-le chunk h ∙ sym (drop_of_length-le (drop at chunk) l2);
-        filled-fits = omega (arith, k-is, min-le_right (e - at) (length line - filled));
-        at-fits = first.most;
+        filled_fits = omega (arith, k-is, min-le_right (e - at) (length line - filled));
+        at_fits = first.most;
         moves = λ m. omega (arith, m);
       }

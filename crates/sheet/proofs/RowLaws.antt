@@ -15,11 +15,11 @@ use Rattle.io.specs.Digits.{hex_digit_ascii, last_digits, IsDigitCount}
 use Rattle.octets.specs.Bytes.{splice, part}
 use Rattle.octets.proofs.BoolLaws.{and_both, and_left, and_right, is-between}
 use Rattle.octets.proofs.PartLaws.{part-whole}
-use Rattle.octets.proofs.SpliceLaws.{splice-none, set-splice, splice-splice, splice-snoc}
-use Rattle.lines.specs.Digits.{Puts, digit, areDigits, numeral}
-use Rattle.lines.proofs.HexLaws.{puts-all}
+use Rattle.octets.proofs.SpliceLaws.{splice-none, set-splice, splice-splice, splice_snoc}
+use Rattle.lines.specs.Digits.{Puts, digit, are_digits, numeral}
+use Rattle.lines.proofs.HexLaws.{puts_all}
 use Rattle.depot.specs.declared.Tally.{Tally}
-use Rattle.sheet.specs.Row.{placesIn, places_of, decimal, field, fields, numbersOf, row, badRow}
+use Rattle.sheet.specs.Row.{places_in, places_of, decimal, field, fields, numbers_of, row, bad_row}
 
 -- ---- how many digits a number has
 
@@ -44,30 +44,30 @@ shorter n (suc i) h w =
     let a : 10 ^ suc i ≤ n = subst (λ (x : ℕ). 10 ^ x ≤ n) d (w.2 (omega arith)) in
     (omega arith, omega arith, λ l. subst (λ (x : ℕ). 10 ^ x ≤ n / 10) (sym e) (omega arith))
 
-pub places-are : (more n k : ℕ) → n < 10 ^ suc more → IsDigitCount 10 1 n k → k ≡ placesIn more n
-unfolding placesIn
-places-are more n zero l w = absurd (omega (arith, w.0))
-places-are zero n (suc j) l w = one_place n (suc j) l w
-places-are (suc more) n (suc j) l w =
+pub places_are : (more n k : ℕ) → n < 10 ^ suc more → IsDigitCount 10 1 n k → k ≡ places_in more n
+unfolding places_in
+places_are more n zero l w = absurd (omega (arith, w.0))
+places_are zero n (suc j) l w = one_place n (suc j) l w
+places_are (suc more) n (suc j) l w =
     let u : n < 10 ^ suc more * 10 = subst (λ (x : ℕ). n < x) (pow-suc 10 (suc more)) l in
-    go (λ h. places-are more (n / 10) j (omega arith) (shorter n j h w)) (ltb n 10) refl
+    go (λ h. places_are more (n / 10) j (omega arith) (shorter n j h w)) (ltb n 10) refl
   where
-    go : (10 ≤ n → j ≡ placesIn more (n / 10)) → (b : Bool) → ltb n 10 ≡ b → suc j ≡ cond b 1 (suc (placesIn more (n / 10)))
+    go : (10 ≤ n → j ≡ places_in more (n / 10)) → (b : Bool) → ltb n 10 ≡ b → suc j ≡ cond b 1 (suc (places_in more (n / 10)))
     go r true e = one_place n (suc j) (ltb-true n 10 e) w
     go r false e = ap suc (r (ltb-false n 10 e))
 
-few-places : (more n : ℕ) → placesIn more n ≤ suc more
-unfolding placesIn
-few-places zero n = omega arith
-few-places (suc more) n = go (few-places more (n / 10)) (ltb n 10)
+few_places : (more n : ℕ) → places_in more n ≤ suc more
+unfolding places_in
+few_places zero n = omega arith
+few_places (suc more) n = go (few_places more (n / 10)) (ltb n 10)
   where
-    go : placesIn more (n / 10) ≤ suc more → (b : Bool) → cond b 1 (suc (placesIn more (n / 10))) ≤ suc (suc more)
+    go : places_in more (n / 10) ≤ suc more → (b : Bool) → cond b 1 (suc (places_in more (n / 10))) ≤ suc (suc more)
     go h true = omega arith
     go h false = omega arith
 
 -- they hold the number, and one less does not
-fewest : (more n : ℕ) → n < 10 ^ suc more → IsDigitCount 10 1 n (placesIn more n)
-unfolding placesIn
+fewest : (more n : ℕ) → n < 10 ^ suc more → IsDigitCount 10 1 n (places_in more n)
+unfolding places_in
 fewest zero n l = (omega arith, l, λ q. absurd (omega (arith, q)))
 fewest (suc more) n l =
     let u : n < 10 ^ suc more * 10 = subst (λ (x : ℕ). n < x) (pow-suc 10 (suc more)) l in
@@ -83,10 +83,10 @@ fewest (suc more) n l =
         let a : 10 ^ suc p ≤ n / 10 = subst (λ (x : ℕ). 10 ^ x ≤ n / 10) d (w.2 (omega arith)) in
         omega arith
 
-    go : IsDigitCount 10 1 (n / 10) (placesIn more (n / 10)) → (b : Bool) → ltb n 10 ≡ b → IsDigitCount 10 1 n (cond b 1 (suc (placesIn more (n / 10))))
+    go : IsDigitCount 10 1 (n / 10) (places_in more (n / 10)) → (b : Bool) → ltb n 10 ≡ b → IsDigitCount 10 1 n (cond b 1 (suc (places_in more (n / 10))))
     go w true e = (omega arith, ltb-true n 10 e, λ q. absurd (omega (arith, q)))
     go w false e =
-        let p : ℕ = placesIn more (n / 10) in
+        let p : ℕ = places_in more (n / 10) in
         let v : 10 ^ suc p ≡ 10 ^ p * 10 = pow-suc 10 p in
         let d : p ≡ suc p - 1 = omega arith in
         let a : 10 ^ p ≤ n = tenfold p (ltb-false n 10 e) w in
@@ -104,10 +104,10 @@ digit_glyph d h =
     let e : 48 + d - 48 ≡ d = omega arith in
     rw (lt-ltb d 10 h, is-between 48 57 (48 + d) (omega arith) (omega arith)) e
 
-numeral-snoc : (r : ℕ) (s : List ℕ) (b : ℕ) → numeral 10 r (s ++ (b ∷ [])) ≡ numeral 10 r s * 10 + digit b
+numeral_snoc : (r : ℕ) (s : List ℕ) (b : ℕ) → numeral 10 r (s ++ (b ∷ [])) ≡ numeral 10 r s * 10 + digit b
 unfolding numeral
-numeral-snoc r [] b = refl
-numeral-snoc r (a ∷ s) b = numeral-snoc (r * 10 + digit a) s b
+numeral_snoc r [] b = refl
+numeral_snoc r (a ∷ s) b = numeral_snoc (r * 10 + digit a) s b
 
 back : (k n : ℕ) → n < 10 ^ k → numeral 10 0 (last_digits 10 k n) ≡ n
 unfolding numeral
@@ -116,21 +116,21 @@ back (suc k) n h =
     let u : n < 10 ^ k * 10 = subst (λ (x : ℕ). n < x) (pow-suc 10 k) h in
     let q : numeral 10 0 (last_digits 10 k (n / 10)) ≡ n / 10 = back k (n / 10) (omega arith) in
     let g : digit (hex_digit_ascii (n % 10)) ≡ n % 10 = digit_glyph (n % 10) (omega arith) in
-    numeral-snoc 0 (last_digits 10 k (n / 10)) (hex_digit_ascii (n % 10)) ∙ omega (arith, q, g)
+    numeral_snoc 0 (last_digits 10 k (n / 10)) (hex_digit_ascii (n % 10)) ∙ omega (arith, q, g)
 
-digits-join : (s : List ℕ) (b : ℕ) → areDigits 10 s ≡ true → ltb (digit b) 10 ≡ true → areDigits 10 (s ++ (b ∷ [])) ≡ true
-unfolding areDigits
+digits-join : (s : List ℕ) (b : ℕ) → are_digits 10 s ≡ true → ltb (digit b) 10 ≡ true → are_digits 10 (s ++ (b ∷ [])) ≡ true
+unfolding are_digits
 digits-join [] b h l = rw l
 digits-join (a ∷ s) b h l =
-    and_both (ltb (digit a) 10) (areDigits 10 (s ++ (b ∷ []))) (and_left (ltb (digit a) 10) (areDigits 10 s) h) (digits-join s b (and_right (ltb (digit a) 10) (areDigits 10 s) h) l)
+    and_both (ltb (digit a) 10) (are_digits 10 (s ++ (b ∷ []))) (and_left (ltb (digit a) 10) (are_digits 10 s) h) (digits-join s b (and_right (ltb (digit a) 10) (are_digits 10 s) h) l)
 
-all_digits : (k n : ℕ) → areDigits 10 (last_digits 10 k n) ≡ true
-unfolding areDigits
+all_digits : (k n : ℕ) → are_digits 10 (last_digits 10 k n) ≡ true
+unfolding are_digits
 all_digits zero n = refl
 all_digits (suc k) n =
     digits-join (last_digits 10 k (n / 10)) (hex_digit_ascii (n % 10)) (all_digits k (n / 10)) (lt-ltb (digit (hex_digit_ascii (n % 10))) 10 (omega (arith, digit_glyph (n % 10) (omega arith))))
 
-pub decimal-digits : (n : ℕ) → areDigits 10 (decimal n) ≡ true
+pub decimal-digits : (n : ℕ) → are_digits 10 (decimal n) ≡ true
 unfolding decimal
 decimal-digits n = all_digits (places_of n) n
 
@@ -147,14 +147,14 @@ decimal-fewest n h = subst (IsDigitCount 10 1 n) (sym (length_digits (places_of 
 pub bad-written : (d d1 d2 name : List ℕ) (n : ℕ) → n ≡ length name → length name + 5 ≤ length d
     → d1 ≡ splice d 0 (part name 0 n)
     → d2 ≡ splice d1 n (part (32 ∷ 98 ∷ 97 ∷ 100 ∷ 10 ∷ []) 0 5)
-    → Puts (badRow name) d d2 (n + 5)
-unfolding badRow part
+    → Puts (bad_row name) d d2 (n + 5)
+unfolding bad_row part
 bad-written d d1 d2 name n z h e1 e2 =
     let bad : List ℕ = 32 ∷ 98 ∷ 97 ∷ 100 ∷ 10 ∷ [] in
     let p : part name 0 n ≡ name = part-whole name n (sym z) in
     let w : d2 ≡ splice d 0 (name ++ bad) =
     e2 ∙ ap (λ (x : List ℕ). splice x n bad) (e1 ∙ ap (splice d 0) p) ∙ ap (λ (x : ℕ). splice (splice d 0 name) x bad) (sym (zero-add n)) ∙ splice-splice d 0 name bad n (sym z) (omega arith) in
-    puts-all (name ++ bad) d d2 (n + 5) (omega (arith, length-append name bad)) (omega arith) w
+    puts_all (name ++ bad) d d2 (n + 5) (omega (arith, length-append name bad)) (omega arith) w
 
 -- ---- fields
 
@@ -167,7 +167,7 @@ pub field-written : (d d2 text : List ℕ) (at n k : ℕ) → n < 10 ^ 10 → Is
     → (d2 ≡ splice d at (field n)) × (at + 1 + k ≡ at + length (field n))
 unfolding field decimal
 field-written d d2 text at n k b f t h w =
-    let e : k ≡ places_of n = places-are 9 n k b f in
+    let e : k ≡ places_of n = places_are 9 n k b f in
     let l : length (field n) ≡ 1 + places_of n = length-field n in
     let m : at < length d = omega arith in
     let v : List ℕ = last_digits 10 (places_of n) n in
@@ -182,10 +182,10 @@ fields_open : (ns : List ℕ) (i : ℕ) → i < length ns → fields (drop i ns)
 unfolding fields
 fields_open ns i h = rw (add-one, drop-cons ns i 0 h)
 
-pub fields-turn : (d d' ns : List ℕ) (end end' i : ℕ) → i < length ns → end + length (fields (drop i ns)) ≤ length d
+pub fields_turn : (d d' ns : List ℕ) (end end' i : ℕ) → i < length ns → end + length (fields (drop i ns)) ≤ length d
     → d' ≡ splice d end (field (get_or ns i 0)) → end' ≡ end + length (field (get_or ns i 0))
     → (splice d end (fields (drop i ns)) ≡ splice d' end' (fields (drop (i + 1) ns))) × (end' + length (fields (drop (i + 1) ns)) ≡ end + length (fields (drop i ns)))
-fields-turn d d' ns end end' i h l e f =
+fields_turn d d' ns end end' i h l e f =
     let x : List ℕ = field (get_or ns i 0) in
     let r : List ℕ = fields (drop (i + 1) ns) in
     let o : fields (drop i ns) ≡ x ++ r = fields_open ns i h in
@@ -210,9 +210,9 @@ fields-end d ns end i h = rw (drop_of_length-le ns h) (splice-none d end, omega 
 pub fields-few : (ns : List ℕ) → length (fields ns) ≤ 11 * length ns
 unfolding fields
 fields-few [] = omega arith
-fields-few (n ∷ ns) = omega (arith, length-append (field n) (fields ns), length-field n, few-places 9 n, fields-few ns)
+fields-few (n ∷ ns) = omega (arith, length-append (field n) (fields ns), length-field n, few_places 9 n, fields-few ns)
 
-pub row_written : (d d1 d2 d3 name ns : List ℕ) (c : Tally) (n end : ℕ) → ns ≡ numbersOf c → n ≡ length name → length name + 67 ≤ length d
+pub row_written : (d d1 d2 d3 name ns : List ℕ) (c : Tally) (n end : ℕ) → ns ≡ numbers_of c → n ≡ length name → length name + 67 ≤ length d
     → d1 ≡ splice d 0 (part name 0 n)
     → d2 ≡ splice d1 n (fields ns)
     → end ≡ n + length (fields ns)
@@ -220,18 +220,18 @@ pub row_written : (d d1 d2 d3 name ns : List ℕ) (c : Tally) (n end : ℕ) → 
     → Puts (row name c) d d3 (end + 1)
 unfolding row
 row_written d d1 d2 d3 name ns c n end q z h e1 e2 f e3 =
-    let F : List ℕ = fields (numbersOf c) in
-    let few : length F ≤ 66 = fields-few (numbersOf c) in
+    let F : List ℕ = fields (numbers_of c) in
+    let few : length F ≤ 66 = fields-few (numbers_of c) in
     let fl : length (fields ns) ≡ length F = ap (λ (x : List ℕ). length (fields x)) q in
     let p : d1 ≡ splice d 0 name = e1 ∙ ap (splice d 0) (part-whole name n (sym z)) in
     let w2 : d2 ≡ splice d 0 (name ++ F) =
     e2 ∙ ap₂ (λ (x y : List ℕ). splice x n (fields y)) p q ∙ ap (λ (x : ℕ). splice (splice d 0 name) x F) (sym (zero-add n)) ∙ splice-splice d 0 name F n (sym z) (omega arith) in
     let lv : length (name ++ F) ≡ end = length-append name F ∙ omega arith in
     let w3 : d3 ≡ splice d 0 ((name ++ F) ++ (10 ∷ [])) =
-    e3 ∙ ap (λ (x : List ℕ). set x end 10) w2 ∙ ap (λ (x : ℕ). set (splice d 0 (name ++ F)) x 10) (sym (zero-add end)) ∙ splice-snoc d 0 (name ++ F) end 10 lv (omega arith) in
-    puts-all (name ++ (F ++ (10 ∷ []))) d d3 (end + 1) (omega (arith, length-append name (F ++ (10 ∷ [])), length-append F (10 ∷ []))) (omega arith) (w3 ∙ ap (splice d 0) (append_assoc name F (10 ∷ [])))
+    e3 ∙ ap (λ (x : List ℕ). set x end 10) w2 ∙ ap (λ (x : ℕ). set (splice d 0 (name ++ F)) x 10) (sym (zero-add end)) ∙ splice_snoc d 0 (name ++ F) end 10 lv (omega arith) in
+    puts_all (name ++ (F ++ (10 ∷ []))) d d3 (end + 1) (omega (arith, length-append name (F ++ (10 ∷ [])), length-append F (10 ∷ []))) (omega arith) (w3 ∙ ap (splice d 0) (append_assoc name F (10 ∷ [])))
 
 -- ---- a text
 
 pub text-written : (d d' v : List ℕ) (n : ℕ) → n ≡ length v → length v ≤ length d → d' ≡ splice d 0 (part v 0 n) → Puts v d d' n
-text-written d d' v n e h w = puts-all v d d' n e (omega arith) (w ∙ ap (splice d 0) (part-whole v n (sym e)))
+text-written d d' v n e h w = puts_all v d d' n e (omega arith) (w ∙ ap (splice d 0) (part-whole v n (sym e)))

@@ -7,10 +7,10 @@ use Prim.Native.Nat.{ℕ}
 use native.Mathlib.Omega.{arith}
 use Rattle.lines.specs.Digits.{numeral}
 use Rattle.depot.specs.Claims.{AddsUp}
-use Rattle.depot.specs.Counts.{countsOf, sum_of}
+use Rattle.depot.specs.Counts.{counts_of, sum_of}
 use Rattle.depot.specs.declared.Tally.{Tally}
 use Rattle.depot.specs.declared.Counted.{Counted}
-use Rattle.depot.specs.declared.Counted.TheVariants as counted-as
+use Rattle.depot.specs.declared.Counted.TheVariants as counted_as
 use Rattle.depot.specs.declared.Summed.{Summed}
 use Rattle.depot.specs.declared.Summed.TheVariants as summed-as
 use Rattle.depot.proofs.Theorems.{classes-add-up, sums-exactly}
@@ -18,22 +18,22 @@ use Rattle.sheet.specs.declared.input.Moment.{Moment}
 use Rattle.sheet.specs.declared.input.Moment.TheVariants as moment
 use Rattle.sheet.specs.declared.Report.{Report}
 use Rattle.sheet.specs.declared.Report.TheVariants.{First, Names, Over}
-use Rattle.sheet.specs.Input.{momentOf, isName, lines_from}
-use Rattle.sheet.specs.Row.{bad, heading, badMoment}
-use Rattle.sheet.specs.Report.{Line, begun, storeLine, fileLine, nameLine, line_of, last_of, text_of, afterLines, reportFrom, asksFile, zeros}
+use Rattle.sheet.specs.Input.{moment_of, is_name, lines_from}
+use Rattle.sheet.specs.Row.{bad, heading, bad_moment}
+use Rattle.sheet.specs.Report.{Line, begun, store_line, file_line, name_line, line_of, last_of, text_of, after_lines, report_from, asks_file, zeros}
 use Rattle.sheet.specs.Claims.{MomentsExactly, Gives, EachLine, WholeReport, SumsAddUp, AskedDecides, StepsAreFed, ChunksDoNotMatter, NumbersReadBack}
-use Rattle.sheet.proofs.InputLaws.{moment-length, moment-digits, moment-read}
+use Rattle.sheet.proofs.InputLaws.{moment_length, moment_digits, moment_read}
 use Rattle.sheet.proofs.RowLaws.{decimal-back, decimal-digits, decimal-fewest}
-use Rattle.sheet.proofs.StreamLaws.{line-ends, chunk-ends, whole}
+use Rattle.sheet.proofs.StreamLaws.{line_ends, chunk_ends, whole}
 
 -- ---- the first line
 
-pub moments-exactly : MomentsExactly
-moments-exactly =
+pub moments_exactly : MomentsExactly
+moments_exactly =
     record {
-      given = λ line h d. sym (moment-read line (numeral 16 0 line) h d refl);
-      other_length = λ line h. sym (moment-length line h);
-      no-digits = λ line h d. sym (moment-digits line h d);
+      given = λ line h d. sym (moment_read line (numeral 16 0 line) h d refl);
+      other_length = λ line h. sym (moment_length line h);
+      no_digits = λ line h d. sym (moment_digits line h d);
     }
 
 -- ---- each line
@@ -43,32 +43,32 @@ unfolding line_of
 each_line =
     record {
       begins = λ line file t e. rw e;
-      no-moment = λ line file e. rw e;
+      no_moment = λ line file e. rw e;
       no_name = λ t s line file e. rw e;
-      bad-file = λ t s line file n e. rw (n, e);
+      bad_file = λ t s line file n e. rw (n, e);
       store = λ t s line file c n e w. rw (n, e, sums-exactly.given s c w);
       too_large = λ t s line file c n e w. rw (n, e, sums-exactly.refused s c w);
     }
 
 module _ (file : List ℕ → List ℕ) where
-  nothing : (ls : List (List ℕ)) → reportFrom file Over ls ≡ []
-  unfolding text_of afterLines line_of last_of
+  nothing : (ls : List (List ℕ)) → report_from file Over ls ≡ []
+  unfolding text_of after_lines line_of last_of
   nothing [] = refl
   nothing (l ∷ ls) = nothing ls
 
-  next : (r r' : Report) (l text : List ℕ) (ls : List (List ℕ)) → Gives r l (file l) text r' → reportFrom file r (l ∷ ls) ≡ text ++ reportFrom file r' ls
-  unfolding text_of afterLines
+  next : (r r' : Report) (l text : List ℕ) (ls : List (List ℕ)) → Gives r l (file l) text r' → report_from file r (l ∷ ls) ≡ text ++ report_from file r' ls
+  unfolding text_of after_lines
   next r r' l text ls e =
-      ap (λ (x : Line). (x.text ++ text_of file x.report ls) ++ last_of (afterLines file x.report ls)) e
-      ∙ append_assoc text (text_of file r' ls) (last_of (afterLines file r' ls))
+      ap (λ (x : Line). (x.text ++ text_of file x.report ls) ++ last_of (after_lines file x.report ls)) e
+      ∙ append_assoc text (text_of file r' ls) (last_of (after_lines file r' ls))
 
 pub whole-report : WholeReport
-unfolding lines_from text_of afterLines last_of
+unfolding lines_from text_of after_lines last_of
 whole-report =
     record {
       no_line = λ file. refl;
       next = next;
-      no-moment = λ file l ls e. next file First Over l badMoment ls (each_line.no-moment l (file l) e) ∙ ap (λ (x : List ℕ). badMoment ++ x) (nothing file ls);
+      no_moment = λ file l ls e. next file First Over l bad_moment ls (each_line.no_moment l (file l) e) ∙ ap (λ (x : List ℕ). bad_moment ++ x) (nothing file ls);
       begins = λ file l ls t e. next file First (Names t zeros) l heading ls (each_line.begins l (file l) t e);
       ends = λ file t s. refl;
       over = nothing;
@@ -77,53 +77,53 @@ whole-report =
 -- ---- the sums
 
 -- the sums of a report that goes on
-sumsIn : Report → Tally
-sumsIn First = zeros
-sumsIn (Names t s) = s
-sumsIn Over = zeros
+sums_in : Report → Tally
+sums_in First = zeros
+sums_in (Names t s) = s
+sums_in Over = zeros
 
 module _ (t : ℕ) (s : Tally) (h : AddsUp s) where
-  after_store : (name : List ℕ) (c : Tally) → AddsUp c → (z : Summed) → sum_of s c ≡ z → AddsUp (sumsIn (storeLine t name c z).report)
-  unfolding sumsIn
+  after_store : (name : List ℕ) (c : Tally) → AddsUp c → (z : Summed) → sum_of s c ≡ z → AddsUp (sums_in (store_line t name c z).report)
+  unfolding sums_in
   after_store name c k (summed-as.Sums u) e = subst AddsUp (sym (sums-exactly.only s c u e).1) (omega arith)
   after_store name c k summed-as.TooLarge e = refl
 
-  after-file : (name file : List ℕ) (z : Counted) → countsOf file t ≡ z → AddsUp (sumsIn (fileLine t s name z).report)
-  unfolding sumsIn
-  after-file name file (counted-as.Counts c) e = after_store name c (classes-add-up.of-store file t c e) (sum_of s c) refl
-  after-file name file counted-as.Bad e = h
+  after_file : (name file : List ℕ) (z : Counted) → counts_of file t ≡ z → AddsUp (sums_in (file_line t s name z).report)
+  unfolding sums_in
+  after_file name file (counted_as.Counts c) e = after_store name c (classes-add-up.of_store file t c e) (sum_of s c) refl
+  after_file name file counted_as.Bad e = h
 
-  after-name : (line file : List ℕ) → AddsUp (sumsIn (nameLine t s line file).report)
-  unfolding sumsIn
-  after-name line file = go (isName line)
+  after_name : (line file : List ℕ) → AddsUp (sums_in (name_line t s line file).report)
+  unfolding sums_in
+  after_name line file = go (is_name line)
     where
-      go : (b : Bool) → AddsUp (sumsIn (cond b (fileLine t s line (countsOf file t)) (record { text = bad; report = Names t s })).report)
-      go true = after-file line file (countsOf file t) refl
+      go : (b : Bool) → AddsUp (sums_in (cond b (file_line t s line (counts_of file t)) (record { text = bad; report = Names t s })).report)
+      go true = after_file line file (counts_of file t) refl
       go false = h
 
-after-moment : (m : Moment) → AddsUp (sumsIn (begun m).report)
-unfolding sumsIn
-after-moment (moment.At t) = refl
-after-moment moment.Bad = refl
+after_moment : (m : Moment) → AddsUp (sums_in (begun m).report)
+unfolding sums_in
+after_moment (moment.At t) = refl
+after_moment moment.Bad = refl
 
-after_line : (r : Report) (line file : List ℕ) → AddsUp (sumsIn r) → AddsUp (sumsIn (line_of r line file).report)
-unfolding line_of sumsIn
-after_line First line file h = after-moment (momentOf line)
-after_line (Names t s) line file h = after-name t s h line file
-after_line Over line file h = refl
+after_line_lem : (r : Report) (line file : List ℕ) → AddsUp (sums_in r) → AddsUp (sums_in (line_of r line file).report)
+unfolding line_of sums_in
+after_line_lem First line file h = after_moment (moment_of line)
+after_line_lem (Names t s) line file h = after_name t s h line file
+after_line_lem Over line file h = refl
 
-after-all : (file : List ℕ → List ℕ) (r : Report) (ls : List (List ℕ)) → AddsUp (sumsIn r) → AddsUp (sumsIn (afterLines file r ls))
-unfolding afterLines
+after-all : (file : List ℕ → List ℕ) (r : Report) (ls : List (List ℕ)) → AddsUp (sums_in r) → AddsUp (sums_in (after_lines file r ls))
+unfolding after_lines
 after-all file r [] h = h
-after-all file r (l ∷ ls) h = after-all file (line_of r l (file l)).report ls (after_line r l (file l) h)
+after-all file r (l ∷ ls) h = after-all file (line_of r l (file l)).report ls (after_line_lem r l (file l) h)
 
 pub sums-add-up : SumsAddUp
-unfolding sumsIn
-sums-add-up = record { add-up = λ file t ls s e. subst (λ (r : Report). AddsUp (sumsIn r)) e (after-all file (Names t zeros) ls refl) }
+unfolding sums_in
+sums-add-up = record { add_up = λ file t ls s e. subst (λ (r : Report). AddsUp (sums_in r)) e (after-all file (Names t zeros) ls refl) }
 
 -- ---- the file that is asked for, chunks, numbers
 
-unasked : (r : Report) (line a b : List ℕ) → asksFile r line ≡ false → line_of r line a ≡ line_of r line b
+unasked : (r : Report) (line a b : List ℕ) → asks_file r line ≡ false → line_of r line a ≡ line_of r line b
 unfolding line_of
 unasked First line a b e = refl
 unasked (Names t s) line a b e = rw e
@@ -132,11 +132,11 @@ unasked Over line a b e = refl
 pub asked-decides : AskedDecides
 asked-decides = record { same = unasked }
 
-pub steps-are-fed : StepsAreFed
-steps-are-fed = record { line-ends = line-ends; chunk-ends = chunk-ends }
+pub steps_are_fed : StepsAreFed
+steps_are_fed = record { line_ends = line_ends; chunk_ends = chunk_ends }
 
-pub chunks-do-not-matter : ChunksDoNotMatter
-chunks-do-not-matter = record { same = whole }
+pub chunks_do_not_matter : ChunksDoNotMatter
+chunks_do_not_matter = record { same = whole }
 
 pub numbers-read-back : NumbersReadBack
 numbers-read-back = record { digits = decimal-digits; back = λ n h. decimal-back n (omega arith); fewest = λ n h. decimal-fewest n (omega arith) }

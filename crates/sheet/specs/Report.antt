@@ -2,10 +2,10 @@
 -- Assumes nothing.
 use Rattle.std.specs.Prelude.{Bool, false, cond, List, [], ◌∷◌, ◌++◌, ℕ, ◌≤◌, ◌≡◌, length}
 use Rattle.lines.specs.Digits.{Puts}
-use Rattle.depot.specs.Counts.{countsOf, sum_of}
+use Rattle.depot.specs.Counts.{counts_of, sum_of}
 use Rattle.depot.specs.declared.Tally.{Tally}
 use Rattle.depot.specs.declared.Counted.{Counted}
-use Rattle.depot.specs.declared.Counted.TheVariants as counted-as
+use Rattle.depot.specs.declared.Counted.TheVariants as counted_as
 use Rattle.depot.specs.declared.Summed.{Summed}
 use Rattle.depot.specs.declared.Summed.TheVariants as summed-as
 use Rattle.sheet.specs.declared.input.Moment.{Moment}
@@ -13,8 +13,8 @@ use Rattle.sheet.specs.declared.input.Moment.TheVariants as moment
 use Rattle.sheet.specs.declared.Report.{Report}
 use Rattle.sheet.specs.declared.Report.TheVariants.{First, Names, Over}
 use Rattle.sheet.specs.declared.Written.{Written}
-use Rattle.sheet.specs.Input.{lines_of, momentOf, isName}
-use Rattle.sheet.specs.Row.{row, badRow, bad, heading, badMoment, sumTooLarge, sumRow}
+use Rattle.sheet.specs.Input.{lines_of, moment_of, is_name}
+use Rattle.sheet.specs.Row.{row, bad_row, bad, heading, bad_moment, sum_too_large, sum_row}
 
 -- what is written, and the report then
 pub record Line : Type 0 where
@@ -29,33 +29,33 @@ zeros = record { held = 0; fit = 0; ended = 0; early = 0; reversed = 0; peers = 
 -- the first: the heading, or `bad moment` and nothing more
 abbrev pub begun : Moment → Line
 begun (moment.At t) = record { text = heading; report = Names t zeros }
-begun moment.Bad = record { text = badMoment; report = Over }
+begun moment.Bad = record { text = bad_moment; report = Over }
 
 -- a store with the counts c: its row and the new sums; `sum too large` in place of the row ends the report
-abbrev pub storeLine : ℕ → List ℕ → Tally → Summed → Line
-storeLine t name c (summed-as.Sums s) = record { text = row name c; report = Names t s }
-storeLine t name c summed-as.TooLarge = record { text = sumTooLarge; report = Over }
+abbrev pub store_line : ℕ → List ℕ → Tally → Summed → Line
+store_line t name c (summed-as.Sums s) = record { text = row name c; report = Names t s }
+store_line t name c summed-as.TooLarge = record { text = sum_too_large; report = Over }
 
 -- a file: a store, or `NAME bad`, which adds nothing
-abbrev pub fileLine : ℕ → Tally → List ℕ → Counted → Line
-fileLine t sums name (counted-as.Counts c) = storeLine t name c (sum_of sums c)
-fileLine t sums name counted-as.Bad = record { text = badRow name; report = Names t sums }
+abbrev pub file_line : ℕ → Tally → List ℕ → Counted → Line
+file_line t sums name (counted_as.Counts c) = store_line t name c (sum_of sums c)
+file_line t sums name counted_as.Bad = record { text = bad_row name; report = Names t sums }
 
 -- a name line, with the bytes of the file that it names; `bad` alone where it is no name
-abbrev pub nameLine : ℕ → Tally → List ℕ → List ℕ → Line
-nameLine t sums line file = cond (isName line) (fileLine t sums line (countsOf file t)) (record { text = bad; report = Names t sums })
+abbrev pub name_line : ℕ → Tally → List ℕ → List ℕ → Line
+name_line t sums line file = cond (is_name line) (file_line t sums line (counts_of file t)) (record { text = bad; report = Names t sums })
 
 unfoldable pub line_of : Report → List ℕ → List ℕ → Line
-line_of First line file = begun (momentOf line)
-line_of (Names t sums) line file = nameLine t sums line file
+line_of First line file = begun (moment_of line)
+line_of (Names t sums) line file = name_line t sums line file
 line_of Over line file = record { text = []; report = Over }
 
 -- ---- the end of the input
 
 -- the line of sums; `bad moment` where no line came
 unfoldable pub last_of : Report → List ℕ
-last_of First = badMoment
-last_of (Names t sums) = sumRow sums
+last_of First = bad_moment
+last_of (Names t sums) = sum_row sums
 last_of Over = []
 
 -- ---- the whole report
@@ -65,24 +65,24 @@ unfoldable pub text_of : (List ℕ → List ℕ) → Report → List (List ℕ) 
 text_of file r [] = []
 text_of file r (l ∷ ls) = let s = line_of r l (file l) in s.text ++ text_of file s.report ls
 
-unfoldable pub afterLines : (List ℕ → List ℕ) → Report → List (List ℕ) → Report
-afterLines file r [] = r
-afterLines file r (l ∷ ls) = afterLines file (line_of r l (file l)).report ls
+unfoldable pub after_lines : (List ℕ → List ℕ) → Report → List (List ℕ) → Report
+after_lines file r [] = r
+after_lines file r (l ∷ ls) = after_lines file (line_of r l (file l)).report ls
 
-abbrev pub reportFrom : (List ℕ → List ℕ) → Report → List (List ℕ) → List ℕ
-reportFrom file r ls = text_of file r ls ++ last_of (afterLines file r ls)
+abbrev pub report_from : (List ℕ → List ℕ) → Report → List (List ℕ) → List ℕ
+report_from file r ls = text_of file r ls ++ last_of (after_lines file r ls)
 
 -- all that is written for an input
-abbrev pub reportOf : (List ℕ → List ℕ) → List ℕ → List ℕ
-reportOf file input = reportFrom file First (lines_of input)
+abbrev pub report_of : (List ℕ → List ℕ) → List ℕ → List ℕ
+report_of file input = report_from file First (lines_of input)
 
 -- ---- what is promised
 
 -- whether the bytes of the file that a line names decide what is written
-abbrev pub asksFile : Report → List ℕ → Bool
-asksFile First line = false
-asksFile (Names t sums) line = isName line
-asksFile Over line = false
+abbrev pub asks_file : Report → List ℕ → Bool
+asks_file First line = false
+asks_file (Names t sums) line = is_name line
+asks_file Over line = false
 
 -- a name leaves room for the numbers in the longest line
 abbrev pub ShortName : List ℕ → Type 0

@@ -7,13 +7,13 @@ use Rattle.depot.specs.declared.Tally.{Tally}
 -- ---- numbers
 
 -- how many decimal digits a number has: one, and one more for each time that it can be divided by ten, `more` times at most
-unfoldable pub placesIn : ℕ → ℕ → ℕ
-placesIn zero n = 1
-placesIn (suc more) n = cond (ltb n 10) 1 (suc (placesIn more (n / 10)))
+unfoldable pub places_in : ℕ → ℕ → ℕ
+places_in zero n = 1
+places_in (suc more) n = cond (ltb n 10) 1 (suc (places_in more (n / 10)))
 
 -- a number of four bytes has ten at most
 abbrev pub places_of : ℕ → ℕ
-places_of n = placesIn 9 n
+places_of n = places_in 9 n
 
 unfoldable pub decimal : ℕ → List ℕ
 decimal n = last_digits 10 (places_of n) n
@@ -27,8 +27,8 @@ fields [] = []
 fields (n ∷ ns) = field n ++ fields ns
 
 -- held, fit, ended, early, reversed, peers: the order of the heading
-abbrev pub numbersOf : Tally → List ℕ
-numbersOf c = c.held ∷ c.fit ∷ c.ended ∷ c.early ∷ c.reversed ∷ c.peers ∷ []
+abbrev pub numbers_of : Tally → List ℕ
+numbers_of c = c.held ∷ c.fit ∷ c.ended ∷ c.early ∷ c.reversed ∷ c.peers ∷ []
 
 -- ---- lines
 
@@ -38,15 +38,15 @@ longest = 322
 
 -- NAME and the six numbers
 unfoldable pub row : List ℕ → Tally → List ℕ
-row name c = name ++ (fields (numbersOf c) ++ (10 ∷ []))
+row name c = name ++ (fields (numbers_of c) ++ (10 ∷ []))
 
 -- "bad"
 abbrev pub bad : List ℕ
 bad = 98 ∷ 97 ∷ 100 ∷ 10 ∷ []
 
 -- NAME bad
-unfoldable pub badRow : List ℕ → List ℕ
-badRow name = name ++ (32 ∷ bad)
+unfoldable pub bad_row : List ℕ → List ℕ
+bad_row name = name ++ (32 ∷ bad)
 
 -- "file held fit ended early reversed peers"
 abbrev pub heading : List ℕ
@@ -60,13 +60,13 @@ heading =
     ∷ 32 ∷ 112 ∷ 101 ∷ 101 ∷ 114 ∷ 115 ∷ 10 ∷ []
 
 -- "bad moment"
-abbrev pub badMoment : List ℕ
-badMoment = 98 ∷ 97 ∷ 100 ∷ 32 ∷ 109 ∷ 111 ∷ 109 ∷ 101 ∷ 110 ∷ 116 ∷ 10 ∷ []
+abbrev pub bad_moment : List ℕ
+bad_moment = 98 ∷ 97 ∷ 100 ∷ 32 ∷ 109 ∷ 111 ∷ 109 ∷ 101 ∷ 110 ∷ 116 ∷ 10 ∷ []
 
 -- "sum too large"
-abbrev pub sumTooLarge : List ℕ
-sumTooLarge = 115 ∷ 117 ∷ 109 ∷ 32 ∷ 116 ∷ 111 ∷ 111 ∷ 32 ∷ 108 ∷ 97 ∷ 114 ∷ 103 ∷ 101 ∷ 10 ∷ []
+abbrev pub sum_too_large : List ℕ
+sum_too_large = 115 ∷ 117 ∷ 109 ∷ 32 ∷ 116 ∷ 111 ∷ 111 ∷ 32 ∷ 108 ∷ 97 ∷ 114 ∷ 103 ∷ 101 ∷ 10 ∷ []
 
 -- "sum", and the six sums
-abbrev pub sumRow : Tally → List ℕ
-sumRow c = row (115 ∷ 117 ∷ 109 ∷ []) c
+abbrev pub sum_row : Tally → List ℕ
+sum_row c = row (115 ∷ 117 ∷ 109 ∷ []) c

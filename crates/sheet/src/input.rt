@@ -1,6 +1,6 @@
 // The input of the report: lines cut out of a stream, the moment, and names of files.
 ghost use Rattle.std.specs.Prelude.{◌≡◌, ◌≤◌, length};
-ghost use Rattle.sheet.specs.Input.{momentOf, isName, hasZero, TakesLine};
+ghost use Rattle.sheet.specs.Input.{moment_of, is_name, has_zero, TakesLine};
 
 use lines::digits::{are_digits, least, number};
 use lines::words::{Class, first};
@@ -30,7 +30,7 @@ pub const LINE: usize = NAME_MOST + 1;
 
 // The moment that a line says.
 pub fn read_moment(line: &[u8]) -> Moment
-    ensures { result ≡ momentOf line.now }
+    ensures { result ≡ moment_of line.now }
 {
     if line.len() != MOMENT_DIGITS {
         return Moment::Bad;
@@ -43,7 +43,7 @@ pub fn read_moment(line: &[u8]) -> Moment
 
 // Whether one of the bytes is zero.
 fn has_zero(line: &[u8]) -> bool
-    ensures { result ≡ hasZero line.now }
+    ensures { result ≡ has_zero line.now }
 {
     let mut i = 0;
     while i < line.len() {
@@ -57,7 +57,7 @@ fn has_zero(line: &[u8]) -> bool
 
 // Whether a line can be the name of a file: 1 to 255 bytes, none of them zero.
 pub fn is_name(line: &[u8]) -> bool
-    ensures { result ≡ isName line.now }
+    ensures { result ≡ is_name line.now }
 {
     if line.len() == 0 {
         return false;

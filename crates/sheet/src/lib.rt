@@ -4,10 +4,10 @@ mod row;
 
 ghost use Rattle.std.specs.Prelude.{◌≡◌, ◌≤◌, length};
 ghost use Rattle.lines.specs.Digits.{Puts};
-ghost use Rattle.sheet.specs.Input.{momentOf};
+ghost use Rattle.sheet.specs.Input.{moment_of};
 ghost use Rattle.sheet.specs.Row.{longest};
-ghost use Rattle.sheet.specs.Report.{begun, storeLine, fileLine, nameLine, line_of, last_of, asksFile, ShortName, PutsLine};
-ghost use Rattle.depot.specs.Counts.{countsOf, sum_of};
+ghost use Rattle.sheet.specs.Report.{begun, store_line, file_line, name_line, line_of, last_of, asks_file, ShortName, PutsLine};
+ghost use Rattle.depot.specs.Counts.{counts_of, sum_of};
 
 use depot::{Counted, Summed, Tally, added, counts};
 use input::{Moment, is_name, read_moment};
@@ -43,7 +43,7 @@ const ZEROS: Tally = Tally {
 
 // Whether the bytes of the file that a line names are wanted.
 pub fn asks_file(report: Report, line: &[u8]) -> bool
-    ensures { result ≡ asksFile report line.now }
+    ensures { result ≡ asks_file report line.now }
 {
     match report {
         Report::First => false,
@@ -55,7 +55,7 @@ pub fn asks_file(report: Report, line: &[u8]) -> bool
 // The first line of the input.
 fn put_first(out: &mut [u8], line: &[u8]) -> Written
     requires { longest ≤ length out.old }
-    ensures { PutsLine (begun (momentOf line.now)) out.old out.new result }
+    ensures { PutsLine (begun (moment_of line.now)) out.old out.new result }
 {
     match read_moment(line) {
         Moment::At(t) => Written {
@@ -73,7 +73,7 @@ fn put_first(out: &mut [u8], line: &[u8]) -> Written
 fn put_store(out: &mut [u8], t: u32, sums: Tally, name: &[u8], c: Tally) -> Written
     requires longest_in_bounds { longest ≤ length out.old }
     requires short_name { ShortName name.now }
-    ensures { PutsLine (storeLine t name.now c (sum_of sums c)) out.old out.new result }
+    ensures { PutsLine (store_line t name.now c (sum_of sums c)) out.old out.new result }
 {
     match added(sums, c) {
         Summed::Sums(s) => Written {
@@ -91,7 +91,7 @@ fn put_store(out: &mut [u8], t: u32, sums: Tally, name: &[u8], c: Tally) -> Writ
 fn put_file(out: &mut [u8], t: u32, sums: Tally, name: &[u8], file: &[u8]) -> Written
     requires longest_in_bounds { longest ≤ length out.old }
     requires short_name { ShortName name.now }
-    ensures { PutsLine (fileLine t sums name.now (countsOf file.now t)) out.old out.new result }
+    ensures { PutsLine (file_line t sums name.now (counts_of file.now t)) out.old out.new result }
 {
     match counts(file, t) {
         Counted::Counts(c) => put_store(out, t, sums, name, c),
@@ -105,7 +105,7 @@ fn put_file(out: &mut [u8], t: u32, sums: Tally, name: &[u8], file: &[u8]) -> Wr
 // A line where a name is due.
 fn put_name(out: &mut [u8], t: u32, sums: Tally, line: &[u8], file: &[u8]) -> Written
     requires { longest ≤ length out.old }
-    ensures { PutsLine (nameLine t sums line.now file.now) out.old out.new result }
+    ensures { PutsLine (name_line t sums line.now file.now) out.old out.new result }
 {
     if is_name(line) {
         return put_file(out, t, sums, line, file);

@@ -2,7 +2,7 @@
 ghost use Rattle.std.specs.Prelude.{◌≡◌, ◌+◌, ◌≤◌, length};
 ghost use Rattle.octets.specs.Bytes.{splice};
 ghost use Rattle.lines.specs.Digits.{Puts};
-ghost use Rattle.sheet.specs.Row.{field, fields, row, badRow};
+ghost use Rattle.sheet.specs.Row.{field, fields, row, bad_row};
 
 use depot::Tally;
 
@@ -48,7 +48,7 @@ pub fn put_row(out: &mut [u8], name: &[u8], c: Tally) -> usize
 // Writes the line of a file that is bad to the front of out, and answers its length.
 pub fn put_bad(out: &mut [u8], name: &[u8]) -> usize
     requires { length name.now + 5 ≤ length out.old }
-    ensures { Puts (badRow name.now) out.old out.new result }
+    ensures { Puts (bad_row name.now) out.old out.new result }
 {
     let n = name.len();
     octets::copy(out, 0, name, 0, n);

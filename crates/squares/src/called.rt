@@ -1,9 +1,9 @@
 // The called side: T-CONN.ind in IDLE, and Sa-CONN.resp in WFRESP.
 ghost use Rattle.std.specs.Prelude.{◌≡◌, true, ◌≤◌, length};
 ghost use Rattle.octets.specs.Bytes.{splice};
-ghost use Rattle.units.specs.Units.{type_of, au2Unit, arUnit, au1Fault};
-ghost use Rattle.table.specs.Table.{stateCode, state_of};
-ghost use Rattle.table.specs.Steps.{called, typed, acts, withState, Does, step, connectIndication};
+ghost use Rattle.units.specs.Units.{type_of, au2_unit, ar_unit, au1_fault};
+ghost use Rattle.table.specs.Table.{state_code, state_of};
+ghost use Rattle.table.specs.Steps.{called, typed, acts, with_state, Does, step, connect_indication};
 
 use table::ends::{acting, refuse, rejected};
 use table::search::{Searched, kmac, search};
@@ -16,7 +16,7 @@ use units::{AU2_LENGTH, Fault, SEALED_LENGTH};
 
 // The application type, and then the AU1.
 fn typed_fault(acceptable: bool, unit: &[u8]) -> Fault
-    ensures { result ≡ typed acceptable (au1Fault unit.now) }
+    ensures { result ≡ typed acceptable (au1_fault unit.now) }
 {
     if !acceptable {
         return Fault::Bad(PARAMETER, UNKNOWN);
@@ -44,7 +44,7 @@ fn waiting(own: u32, peer: u32, ra: [u8; 8], rb: [u8; 8], kmac: [u8; 24]) -> Con
 // AU2 goes out.
 fn send_au2(c: Connection, out: &mut [u8]) -> Step
     requires { (type_of c.own ≤ 7) × (1032 ≤ length out.old) }
-    ensures { (result.answer ≡ Stepped.Done (acts ToUser.Nothing ToTransport.TConnResp Timer.Keep 21)) × (result.connection ≡ c) × (out.new ≡ splice out.old 0 (au2Unit c.key c.own c.peer c.ra c.rb)) }
+    ensures { (result.answer ≡ Stepped.Done (acts ToUser.Nothing ToTransport.TConnResp Timer.Keep 21)) × (result.connection ≡ c) × (out.new ≡ splice out.old 0 (au2_unit c.key c.own c.peer c.ra c.rb)) }
 {
     let key = c.key;
     let ra = c.ra;
@@ -69,8 +69,8 @@ fn joined(
     store: &[u8],
     out: &mut [u8],
 ) -> Step
-    requires { (state_of c.state ≡ State.IDLE) × ((1032 ≤ length out.old) × (au1Fault unit.now ≡ Fault.Fine)) }
-    ensures { Does (step (connectIndication true own t ra unit.now store.now) c out.old) result.answer result.connection out.new }
+    requires { (state_of c.state ≡ State.IDLE) × ((1032 ≤ length out.old) × (au1_fault unit.now ≡ Fault.Fine)) }
+    ensures { Does (step (connect_indication true own t ra unit.now store.now) c out.old) result.answer result.connection out.new }
 {
     let peer = units::sender_of(unit);
     match search(store, own, peer, t) {
@@ -93,7 +93,7 @@ pub fn invited(
     out: &mut [u8],
 ) -> Step
     requires { (state_of c.state ≡ State.IDLE) × (1032 ≤ length out.old) }
-    ensures { Does (step (connectIndication acceptable own t ra unit.now store.now) c out.old) result.answer result.connection out.new }
+    ensures { Does (step (connect_indication acceptable own t ra unit.now store.now) c out.old) result.answer result.connection out.new }
 {
     match typed_fault(acceptable, unit) {
         Fault::Fine => joined(c, own, t, ra, unit, store, out),
@@ -106,7 +106,7 @@ pub fn invited(
 // AR goes out.
 pub fn send_ar(c: Connection, out: &mut [u8]) -> Step
     requires { 1032 ≤ length out.old }
-    ensures { (result.answer ≡ Stepped.Done (acts ToUser.Nothing ToTransport.SendAr Timer.Keep 9)) × (result.connection ≡ withState c (stateCode State.DATA)) × (out.new ≡ splice out.old 0 (arUnit c.key c.peer)) }
+    ensures { (result.answer ≡ Stepped.Done (acts ToUser.Nothing ToTransport.SendAr Timer.Keep 9)) × (result.connection ≡ with_state c (state_code State.DATA)) × (out.new ≡ splice out.old 0 (ar_unit c.key c.peer)) }
 {
     let key = c.key;
     units::put_ar(out, key, c.peer);

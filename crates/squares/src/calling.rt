@@ -1,9 +1,9 @@
 // The caller: Sa-CONN.req in IDLE, and T-CONN.conf in WFTC.
 ghost use Rattle.std.specs.Prelude.{◌≡◌, ◌≤◌, length};
 ghost use Rattle.octets.specs.Bytes.{splice};
-ghost use Rattle.units.specs.Units.{type_of, au1Unit, au3Unit, au2Fields};
-ghost use Rattle.table.specs.Table.{stateCode, state_of};
-ghost use Rattle.table.specs.Steps.{calling, confirmed, acts, withState, Does, step, connectRequest, connectConfirmation};
+ghost use Rattle.units.specs.Units.{type_of, au1_unit, au3_unit, au2_fields};
+ghost use Rattle.table.specs.Table.{state_code, state_of};
+ghost use Rattle.table.specs.Steps.{calling, confirmed, acts, with_state, Does, step, connect_request, connect_confirmation};
 
 use table::ends::{acting, ended, refuse};
 use table::search::{Searched, kmac, search};
@@ -33,7 +33,7 @@ fn waiting(own: u32, peer: u32, rb: [u8; 8], kmac: [u8; 24]) -> Connection
 // AU1 goes out.
 fn send_au1(c: Connection, out: &mut [u8]) -> Step
     requires { (type_of c.own ≤ 7) × (1032 ≤ length out.old) }
-    ensures { (result.answer ≡ Stepped.Done (acts ToUser.Nothing ToTransport.TConnReq Timer.Set 13)) × (result.connection ≡ c) × (out.new ≡ splice out.old 0 (au1Unit c.own c.rb)) }
+    ensures { (result.answer ≡ Stepped.Done (acts ToUser.Nothing ToTransport.TConnReq Timer.Set 13)) × (result.connection ≡ c) × (out.new ≡ splice out.old 0 (au1_unit c.own c.rb)) }
 {
     let rb = c.rb;
     units::put_au1(out, c.own, rb);
@@ -57,7 +57,7 @@ pub fn requested(
     out: &mut [u8],
 ) -> Step
     requires { (state_of c.state ≡ State.IDLE) × (1032 ≤ length out.old) }
-    ensures { Does (step (connectRequest acceptable own peer t rb store.now) c out.old) result.answer result.connection out.new }
+    ensures { Does (step (connect_request acceptable own peer t rb store.now) c out.old) result.answer result.connection out.new }
 {
     if !acceptable {
         return acting(
@@ -98,7 +98,7 @@ fn learning(c: Connection, ra: [u8; 8]) -> Connection
 // AU3 goes out.
 fn send_au3(c: Connection, out: &mut [u8]) -> Step
     requires { 1032 ≤ length out.old }
-    ensures { (result.answer ≡ Stepped.Done (acts ToUser.Nothing ToTransport.SendAu3 Timer.Keep 9)) × (result.connection ≡ withState c (stateCode State.WFAR)) × (out.new ≡ splice out.old 0 (au3Unit c.key c.peer c.ra c.rb)) }
+    ensures { (result.answer ≡ Stepped.Done (acts ToUser.Nothing ToTransport.SendAu3 Timer.Keep 9)) × (result.connection ≡ with_state c (state_code State.WFAR)) × (out.new ≡ splice out.old 0 (au3_unit c.key c.peer c.ra c.rb)) }
 {
     let key = c.key;
     let ra = c.ra;
@@ -115,8 +115,8 @@ fn send_au3(c: Connection, out: &mut [u8]) -> Step
 
 // An AU2 whose fields are right.
 fn sealed(c: Connection, unit: &[u8], out: &mut [u8]) -> Step
-    requires { (state_of c.state ≡ State.WFTC) × ((1032 ≤ length out.old) × (au2Fields c.peer unit.now ≡ Fault.Fine)) }
-    ensures { Does (step (connectConfirmation unit.now) c out.old) result.answer result.connection out.new }
+    requires { (state_of c.state ≡ State.WFTC) × ((1032 ≤ length out.old) × (au2_fields c.peer unit.now ≡ Fault.Fine)) }
+    ensures { Does (step (connect_confirmation unit.now) c out.old) result.answer result.connection out.new }
 {
     let about = learning(c, units::random_of(unit));
     let key = about.key;
@@ -132,7 +132,7 @@ fn sealed(c: Connection, unit: &[u8], out: &mut [u8]) -> Step
 
 pub fn answered(c: Connection, unit: &[u8], out: &mut [u8]) -> Step
     requires { (state_of c.state ≡ State.WFTC) × (1032 ≤ length out.old) }
-    ensures { Does (step (connectConfirmation unit.now) c out.old) result.answer result.connection out.new }
+    ensures { Does (step (connect_confirmation unit.now) c out.old) result.answer result.connection out.new }
 {
     match units::au2_fields(c.peer, unit) {
         Fault::Fine => sealed(c, unit, out),

@@ -1,10 +1,10 @@
 // Units that T-DATA.ind brings, and user data.
 ghost use Rattle.std.specs.Prelude.{◌≡◌, not, cond, eqb, ◌≤◌, length};
-ghost use Rattle.refusal.specs.House.{house, houseNumber};
+ghost use Rattle.refusal.specs.House.{house, house_number};
 ghost use Rattle.authentication.specs.Unit.{checked};
-ghost use Rattle.units.specs.Units.{etcsId, code, contentsCode};
+ghost use Rattle.units.specs.Units.{etcs_id, code, contents_code};
 ghost use Rattle.table.specs.Table.{state_of};
-ghost use Rattle.table.specs.Steps.{replayed, handedUp, Does, step, unitIndication};
+ghost use Rattle.table.specs.Steps.{replayed, handed_up, Does, step, unit_indication};
 ghost use Rattle.table.specs.Parts.{unawaited};
 
 use authentication::Checked;
@@ -68,7 +68,7 @@ fn out_of_sequence(c: Connection, kind: Kind, out: &mut [u8]) -> Step
 // AU3 in WFAU3.
 fn judge_au3(c: Connection, unit: &[u8], out: &mut [u8]) -> Step
     requires { (state_of c.state ≡ State.WFAU3) × (1032 ≤ length out.old) }
-    ensures { Does (step (unitIndication Kind.Au3 unit.now) c out.old) result.answer result.connection out.new }
+    ensures { Does (step (unit_indication Kind.Au3 unit.now) c out.old) result.answer result.connection out.new }
 {
     let key = c.key;
     let ra = c.ra;
@@ -87,7 +87,7 @@ fn judge_au3(c: Connection, unit: &[u8], out: &mut [u8]) -> Step
 
 pub fn take_au3(c: Connection, unit: &[u8], out: &mut [u8]) -> Step
     requires { 1032 ≤ length out.old }
-    ensures { Does (step (unitIndication Kind.Au3 unit.now) c out.old) result.answer result.connection out.new }
+    ensures { Does (step (unit_indication Kind.Au3 unit.now) c out.old) result.answer result.connection out.new }
 {
     if c.state == Connection::WFAU3 {
         return judge_au3(c, unit, out);
@@ -98,7 +98,7 @@ pub fn take_au3(c: Connection, unit: &[u8], out: &mut [u8]) -> Step
 // AR in WFAR.
 fn judge_ar(c: Connection, unit: &[u8], out: &mut [u8]) -> Step
     requires { (state_of c.state ≡ State.WFAR) × (1032 ≤ length out.old) }
-    ensures { Does (step (unitIndication Kind.Ar unit.now) c out.old) result.answer result.connection out.new }
+    ensures { Does (step (unit_indication Kind.Ar unit.now) c out.old) result.answer result.connection out.new }
 {
     let key = c.key;
     match units::ar_fault(key, c.own, unit) {
@@ -115,7 +115,7 @@ fn judge_ar(c: Connection, unit: &[u8], out: &mut [u8]) -> Step
 
 pub fn take_ar(c: Connection, unit: &[u8], out: &mut [u8]) -> Step
     requires { 1032 ≤ length out.old }
-    ensures { Does (step (unitIndication Kind.Ar unit.now) c out.old) result.answer result.connection out.new }
+    ensures { Does (step (unit_indication Kind.Ar unit.now) c out.old) result.answer result.connection out.new }
 {
     if c.state == Connection::WFAR {
         return judge_ar(c, unit, out);
@@ -127,7 +127,7 @@ pub fn take_ar(c: Connection, unit: &[u8], out: &mut [u8]) -> Step
 
 // What is wrong with a DT whose MAC is right, or whose length is wrong.
 fn fault_code(n: u8, responder: bool, unit: &[u8]) -> Code
-    ensures { result ≡ cond (eqb n 9) (contentsCode responder unit.now) (code 10 5) }
+    ensures { result ≡ cond (eqb n 9) (contents_code responder unit.now) (code 10 5) }
 {
     if n == UNIT_CONTENTS {
         return units::contents_code(responder, unit);
@@ -140,8 +140,8 @@ fn fault_code(n: u8, responder: bool, unit: &[u8]) -> Code
 
 // A DT that check refuses, in DATA.
 fn refuse_dt(c: Connection, h: Refusal, unit: &[u8], out: &mut [u8]) -> Step
-    requires { (state_of c.state ≡ State.DATA) × ((1032 ≤ length out.old) × (checked unit.now c.key (etcsId c.own) (not c.responder) ≡ house (houseNumber h))) }
-    ensures { Does (step (unitIndication Kind.Dt unit.now) c out.old) result.answer result.connection out.new }
+    requires { (state_of c.state ≡ State.DATA) × ((1032 ≤ length out.old) × (checked unit.now c.key (etcs_id c.own) (not c.responder) ≡ house (house_number h))) }
+    ensures { Does (step (unit_indication Kind.Dt unit.now) c out.old) result.answer result.connection out.new }
 {
     let n = house_number(h);
     if n == MAC_DIFFERS {
@@ -160,7 +160,7 @@ fn refuse_dt(c: Connection, h: Refusal, unit: &[u8], out: &mut [u8]) -> Step
 // DT in DATA.
 fn judge_dt(c: Connection, unit: &[u8], out: &mut [u8]) -> Step
     requires { (state_of c.state ≡ State.DATA) × (1032 ≤ length out.old) }
-    ensures { Does (step (unitIndication Kind.Dt unit.now) c out.old) result.answer result.connection out.new }
+    ensures { Does (step (unit_indication Kind.Dt unit.now) c out.old) result.answer result.connection out.new }
 {
     let key = c.key;
     match authentication::check(unit, &key, etcs_id(c.own), !c.responder) {
@@ -177,7 +177,7 @@ fn judge_dt(c: Connection, unit: &[u8], out: &mut [u8]) -> Step
 
 pub fn take_dt(c: Connection, unit: &[u8], out: &mut [u8]) -> Step
     requires { 1032 ≤ length out.old }
-    ensures { Does (step (unitIndication Kind.Dt unit.now) c out.old) result.answer result.connection out.new }
+    ensures { Does (step (unit_indication Kind.Dt unit.now) c out.old) result.answer result.connection out.new }
 {
     if c.state == Connection::DATA {
         return judge_dt(c, unit, out);
@@ -188,7 +188,7 @@ pub fn take_dt(c: Connection, unit: &[u8], out: &mut [u8]) -> Step
 // The user data of a DT that go up.
 pub fn data_of<'u, 'o>(c: Connection, unit: &'u [u8], out: &'o [u8]) -> &'u [u8]
     requires { 1032 ≤ length out.now }
-    ensures { result.now ≡ handedUp (step (unitIndication Kind.Dt unit.now) c out.now).answer unit.now }
+    ensures { result.now ≡ handed_up (step (unit_indication Kind.Dt unit.now) c out.now).answer unit.now }
 {
     if c.state != Connection::DATA {
         return &unit[..0];

@@ -2,9 +2,9 @@
 ghost use Rattle.std.specs.Prelude.{◌≡◌, true, ◌+◌, ◌≤◌, length};
 ghost use Rattle.octets.specs.Bytes.{between, splice};
 ghost use Rattle.authentication.specs.Unit.{unit_of};
-ghost use Rattle.units.specs.Units.{etcsId, releaseCode};
-ghost use Rattle.table.specs.Table.{stateCode};
-ghost use Rattle.table.specs.Steps.{idle, acts, withState};
+ghost use Rattle.units.specs.Units.{etcs_id, release_code};
+ghost use Rattle.table.specs.Table.{state_code};
+ghost use Rattle.table.specs.Steps.{idle, acts, with_state};
 
 use authentication::UNIT_LEAST;
 use table::ends::{acting, ended};
@@ -15,7 +15,7 @@ use units::etcs_id;
 // A DT goes out, in DATA.
 pub fn send_dt(c: Connection, user: &[u8], out: &mut [u8]) -> Step
     requires { (1032 ≤ length out.old) × (between 1 1023 (length user.now) ≡ true) }
-    ensures { (result.answer ≡ Stepped.Done (acts ToUser.Nothing ToTransport.SendDt Timer.Keep (length user.now + 9))) × (result.connection ≡ withState c (stateCode State.DATA)) × (out.new ≡ splice out.old 0 (unit_of c.key (etcsId c.peer) c.responder user.now)) }
+    ensures { (result.answer ≡ Stepped.Done (acts ToUser.Nothing ToTransport.SendDt Timer.Keep (length user.now + 9))) × (result.connection ≡ with_state c (state_code State.DATA)) × (out.new ≡ splice out.old 0 (unit_of c.key (etcs_id c.peer) c.responder user.now)) }
 {
     let key = c.key;
     authentication::build(&key, etcs_id(c.peer), c.responder, user, out);
@@ -30,7 +30,7 @@ pub fn send_dt(c: Connection, user: &[u8], out: &mut [u8]) -> Step
 
 // The transport connection is lost or released.
 pub fn lost(reason: u8, unit: &[u8]) -> Step
-    ensures { (result.answer ≡ Stepped.Done (acts (ToUser.DisconnectIndication (releaseCode reason unit.now).reason (releaseCode reason unit.now).sub) ToTransport.Quiet Timer.StopAll 0)) × (result.connection ≡ idle) }
+    ensures { (result.answer ≡ Stepped.Done (acts (ToUser.DisconnectIndication (release_code reason unit.now).reason (release_code reason unit.now).sub) ToTransport.Quiet Timer.StopAll 0)) × (result.connection ≡ idle) }
 {
     let code = units::release_code(reason, unit);
     ended(

@@ -1,27 +1,27 @@
 -- Answers with the same numbers are the same answer.
 -- Assumes nothing.
 use mathlib.Core.Path.{◌≡◌, refl, sym, ap, ap₂}
-use Rattle.refusal.specs.House.{houseNumber}
+use Rattle.refusal.specs.House.{house_number}
 use Rattle.refusal.proofs.Laws.{one_number, house-number, not-both}
-use Rattle.store.specs.Search.{found, unfound, foundAs, emptiedAs}
+use Rattle.store.specs.Search.{found, unfound, found_as, emptied_as}
 use Rattle.store.specs.declared.Found.{Found}
 use Rattle.store.specs.declared.Found.TheVariants as found_as
 use Rattle.store.specs.declared.Emptied.{Emptied}
 use Rattle.store.specs.declared.Emptied.TheVariants as emptied-as
 use Rattle.store.proofs.SearchLaws.{not_found}
 
-pub found-one : (a b : Found) → foundAs a ≡ foundAs b → a ≡ b
+pub found-one : (a b : Found) → found_as a ≡ found_as b → a ≡ b
 found-one (found_as.At m a) (found_as.At n b) e =
     let q : found m a ≡ found n b = e in
     ap₂ found_as.At (cc) (cc)
-found-one (found_as.At m a) (found_as.Refused h) e = not_found (houseNumber h) m a (sym e)
-found-one (found_as.Refused g) (found_as.At n b) e = not_found (houseNumber g) n b e
+found-one (found_as.At m a) (found_as.Refused h) e = not_found (house_number h) m a (sym e)
+found-one (found_as.Refused g) (found_as.At n b) e = not_found (house_number g) n b e
 found-one (found_as.Refused g) (found_as.Refused h) e =
-    let q : unfound (houseNumber g) ≡ unfound (houseNumber h) = e in
+    let q : unfound (house_number g) ≡ unfound (house_number h) = e in
     ap found_as.Refused (one_number g h (cc))
 
-pub emptied-one : (a b : Emptied) → emptiedAs a ≡ emptiedAs b → a ≡ b
+pub emptied-one : (a b : Emptied) → emptied_as a ≡ emptied_as b → a ≡ b
 emptied-one emptied-as.Done emptied-as.Done e = refl
-emptied-one emptied-as.Done (emptied-as.Refused h) e = not-both (houseNumber h) 0 (sym e)
-emptied-one (emptied-as.Refused g) emptied-as.Done e = not-both (houseNumber g) 0 e
-emptied-one (emptied-as.Refused g) (emptied-as.Refused h) e = ap emptied-as.Refused (one_number g h (house-number (houseNumber g) (houseNumber h) e))
+emptied-one emptied-as.Done (emptied-as.Refused h) e = not-both (house_number h) 0 (sym e)
+emptied-one (emptied-as.Refused g) emptied-as.Done e = not-both (house_number g) 0 e
+emptied-one (emptied-as.Refused g) (emptied-as.Refused h) e = ap emptied-as.Refused (one_number g h (house-number (house_number g) (house_number h) e))

@@ -8,7 +8,7 @@ use native.Mathlib.Omega.{arith}
 use lib.ListN.{length, get_or, take, replicate, length-append}
 use Rattle.octets.specs.Bytes.{be16, be32}
 use Rattle.octets.specs.Words.{words}
-use Rattle.store.specs.Store.{Entry, header, keyRecord, keyRecords, peersOf, encode}
+use Rattle.store.specs.Store.{Entry, header, key_record, key_records, peers_of, encode}
 use Rattle.store.specs.WellFormed.{Fitting, nobody}
 use Rattle.store.specs.declared.Limits.{Limits}
 
@@ -20,7 +20,7 @@ LongKeys (e ∷ es) = (length e.kmac ≡ 24) × LongKeys es
 pub fitting-long : (es : List Entry) → ((i : ℕ) → i < length es → Fitting (get_or es i nobody)) → LongKeys es
 unfolding LongKeys
 fitting-long [] f = tt
-fitting-long (e ∷ es) f = ((f 0 (omega arith)).kmac-long, fitting-long es (λ i l. f (suc i) (omega arith)))
+fitting-long (e ∷ es) f = ((f 0 (omega arith)).kmac_long, fitting-long es (λ i l. f (suc i) (omega arith)))
 
 pub take_long : (i : ℕ) (es : List Entry) → LongKeys es → LongKeys (take i es)
 unfolding LongKeys
@@ -34,49 +34,49 @@ pub header-length : (L : Limits) (n m : ℕ) → length (header L n m) ≡ 12
 unfolding header
 header-length L n m = refl
 
-pub keyRecord-length : (p : ℕ) (e : Entry) → length e.kmac ≡ 24 → length (keyRecord p e) ≡ 44
-unfolding keyRecord
-keyRecord-length p e k = simp length-append (omega arith)
+pub key_record-length : (p : ℕ) (e : Entry) → length e.kmac ≡ 24 → length (key_record p e) ≡ 44
+unfolding key_record
+key_record-length p e k = simp length-append (omega arith)
 
-pub keyRecords-length : (p : ℕ) (es : List Entry) → LongKeys es → length (keyRecords p es) ≡ 44 * length es
-unfolding keyRecords LongKeys
-keyRecords-length p [] k = refl
-keyRecords-length p (e ∷ es) k =
-    length-append (keyRecord p e) (keyRecords (p + length e.peers) es)
-    ∙ omega (arith, keyRecord-length p e k.0, keyRecords-length (p + length e.peers) es k.1)
+pub key_records-length : (p : ℕ) (es : List Entry) → LongKeys es → length (key_records p es) ≡ 44 * length es
+unfolding key_records LongKeys
+key_records-length p [] k = refl
+key_records-length p (e ∷ es) k =
+    length-append (key_record p e) (key_records (p + length e.peers) es)
+    ∙ omega (arith, key_record-length p e k.0, key_records-length (p + length e.peers) es k.1)
 
 -- what stands before record i
-pub front_length : (L : Limits) (es : List Entry) (n m i : ℕ) → LongKeys es → length es ≡ i → length (header L n m ++ keyRecords 0 es) ≡ 12 + 44 * i
+pub front_length : (L : Limits) (es : List Entry) (n m i : ℕ) → LongKeys es → length es ≡ i → length (header L n m ++ key_records 0 es) ≡ 12 + 44 * i
 front_length L es n m i k e =
-    length-append (header L n m) (keyRecords 0 es)
-    ∙ ap (λ (x : ℕ). x + length (keyRecords 0 es)) (header-length L n m)
-    ∙ ap (λ (x : ℕ). 12 + x) (keyRecords-length 0 es k ∙ ap (λ (x : ℕ). 44 * x) e)
+    length-append (header L n m) (key_records 0 es)
+    ∙ ap (λ (x : ℕ). x + length (key_records 0 es)) (header-length L n m)
+    ∙ ap (λ (x : ℕ). 12 + x) (key_records-length 0 es k ∙ ap (λ (x : ℕ). 44 * x) e)
 
 -- ---- joined lists
 
-pub peersOf-append : (xs ys : List Entry) → peersOf (xs ++ ys) ≡ peersOf xs ++ peersOf ys
-unfolding peersOf
-peersOf-append [] ys = refl
-peersOf-append (x ∷ xs) ys = ap (λ (r : List ℕ). x.peers ++ r) (peersOf-append xs ys) ∙ sym (append_assoc x.peers (peersOf xs) (peersOf ys))
+pub peers_of-append : (xs ys : List Entry) → peers_of (xs ++ ys) ≡ peers_of xs ++ peers_of ys
+unfolding peers_of
+peers_of-append [] ys = refl
+peers_of-append (x ∷ xs) ys = ap (λ (r : List ℕ). x.peers ++ r) (peers_of-append xs ys) ∙ sym (append_assoc x.peers (peers_of xs) (peers_of ys))
 
-pub keyRecords-append : (p : ℕ) (xs ys : List Entry) → keyRecords p (xs ++ ys) ≡ keyRecords p xs ++ keyRecords (p + length (peersOf xs)) ys
-unfolding keyRecords peersOf
-keyRecords-append p [] ys = ap (λ (q : ℕ). keyRecords q ys) (sym (add-zero p))
-keyRecords-append p (x ∷ xs) ys =
+pub key_records-append : (p : ℕ) (xs ys : List Entry) → key_records p (xs ++ ys) ≡ key_records p xs ++ key_records (p + length (peers_of xs)) ys
+unfolding key_records peers_of
+key_records-append p [] ys = ap (λ (q : ℕ). key_records q ys) (sym (add-zero p))
+key_records-append p (x ∷ xs) ys =
     let q : ℕ = p + length x.peers in
-    ap (λ (r : List ℕ). keyRecord p x ++ r) (keyRecords-append q xs ys)
-    ∙ sym (append_assoc (keyRecord p x) (keyRecords q xs) (keyRecords (q + length (peersOf xs)) ys))
-    ∙ ap (λ (r : ℕ). (keyRecord p x ++ keyRecords q xs) ++ keyRecords r ys)
-    (add_assoc p (length x.peers) (length (peersOf xs)) ∙ ap (λ (r : ℕ). p + r) (sym (length-append x.peers (peersOf xs))))
+    ap (λ (r : List ℕ). key_record p x ++ r) (key_records-append q xs ys)
+    ∙ sym (append_assoc (key_record p x) (key_records q xs) (key_records (q + length (peers_of xs)) ys))
+    ∙ ap (λ (r : ℕ). (key_record p x ++ key_records q xs) ++ key_records r ys)
+    (add_assoc p (length x.peers) (length (peers_of xs)) ∙ ap (λ (r : ℕ). p + r) (sym (length-append x.peers (peers_of xs))))
 
 -- an encoding, by its counts and its peers
-pub encode-as : (L : Limits) (es : List Entry) (ps : List ℕ) (n m : ℕ) → length es ≡ n → peersOf es ≡ ps → length ps ≡ m
-    → encode L es ≡ header L n m ++ (keyRecords 0 es ++ (replicate (44 * (L.keys - n)) 0 ++ (words ps ++ replicate (4 * (L.peers - m)) 0)))
+pub encode_as : (L : Limits) (es : List Entry) (ps : List ℕ) (n m : ℕ) → length es ≡ n → peers_of es ≡ ps → length ps ≡ m
+    → encode L es ≡ header L n m ++ (key_records 0 es ++ (replicate (44 * (L.keys - n)) 0 ++ (words ps ++ replicate (4 * (L.peers - m)) 0)))
 unfolding encode
-encode-as L es ps n m en ep em =
-    ap (λ (x : List ℕ). header L (length es) (length x) ++ (keyRecords 0 es ++ (replicate (44 * (L.keys - length es)) 0 ++ (words x ++ replicate (4 * (L.peers - length x)) 0)))) ep
-    ∙ ap (λ (x : ℕ). header L x (length ps) ++ (keyRecords 0 es ++ (replicate (44 * (L.keys - x)) 0 ++ (words ps ++ replicate (4 * (L.peers - length ps)) 0)))) en
-    ∙ ap (λ (x : ℕ). header L n x ++ (keyRecords 0 es ++ (replicate (44 * (L.keys - n)) 0 ++ (words ps ++ replicate (4 * (L.peers - x)) 0)))) em
+encode_as L es ps n m en ep em =
+    ap (λ (x : List ℕ). header L (length es) (length x) ++ (key_records 0 es ++ (replicate (44 * (L.keys - length es)) 0 ++ (words x ++ replicate (4 * (L.peers - length x)) 0)))) ep
+    ∙ ap (λ (x : ℕ). header L x (length ps) ++ (key_records 0 es ++ (replicate (44 * (L.keys - x)) 0 ++ (words ps ++ replicate (4 * (L.peers - length ps)) 0)))) en
+    ∙ ap (λ (x : ℕ). header L n x ++ (key_records 0 es ++ (replicate (44 * (L.keys - n)) 0 ++ (words ps ++ replicate (4 * (L.peers - x)) 0)))) em
 
 -- ---- a record behind a and before t, cut before each of its fields
 

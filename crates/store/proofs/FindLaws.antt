@@ -10,9 +10,9 @@ use lib.Dec.{ltb}
 use borrow.Author.Tests.{ltb-true, ltb-false}
 use Rattle.octets.specs.Words.{elem}
 use Rattle.octets.proofs.BoolLaws.{clash, and_left, and_right}
-use Rattle.store.specs.Layout.{editionOf}
-use Rattle.store.specs.Store.{Entry, entries, keyCount, sound}
-use Rattle.store.specs.Search.{fits, serves, chosen, found, unfound, or_else, placed, findIn, find}
+use Rattle.store.specs.Layout.{edition_of}
+use Rattle.store.specs.Store.{Entry, entries, key_count, sound}
+use Rattle.store.specs.Search.{fits, serves, chosen, found, unfound, or_else, placed, find_in, find}
 use Rattle.store.specs.WellFormed.{nobody}
 use Rattle.store.specs.Claims.{Taken, IsFound, NoneServes, AllAmong, placeless}
 use Rattle.store.specs.declared.Choice.{Choice}
@@ -24,7 +24,7 @@ use Rattle.store.proofs.LatestLaws.{Takes, takes, outlasted}
 use Rattle.store.proofs.SearchLaws.{FoundIn, found_in, find-placed, not_found, find-unsound, find_at, find_none}
 use Rattle.store.proofs.WellFormedLaws.{entries_at}
 
-module _ (L : Limits) (s : List ℕ) (peer t : ℕ) (known : editionOf (length s) ≡ Known L) where
+module _ (L : Limits) (s : List ℕ) (peer t : ℕ) (known : edition_of (length s) ≡ Known L) where
   abbrev choice : Choice
   choice = chosen peer t (entries L s)
 
@@ -34,13 +34,13 @@ module _ (L : Limits) (s : List ℕ) (peer t : ℕ) (known : editionOf (length s
   takes-here : Takes (serves peer t) (entries L s) choice
   takes-here = takes (serves peer t) (entries L s)
 
-  in-edition : find s peer t ≡ findIn (Known L) s peer t
+  in_edition : find s peer t ≡ find_in (Known L) s peer t
   unfolding find
-  in-edition = ap (λ (E : Edition). findIn E s peer t) known
+  in_edition = ap (λ (E : Edition). find_in E s peer t) known
 
-  pub in-sound : sound L s ≡ true → find s peer t ≡ placed choice size
-  unfolding findIn
-  in-sound h = in-edition ∙ rw h
+  pub in_sound : sound L s ≡ true → find s peer t ≡ placed choice size
+  unfolding find_in
+  in_sound h = in_edition ∙ rw h
 
   -- H12 is that of an unsound store
   pub twelve-unsound : find s peer t ≡ unfound 12 → sound L s ≡ false
@@ -51,35 +51,35 @@ module _ (L : Limits) (s : List ℕ) (peer t : ℕ) (known : editionOf (length s
       not-placed false z = let y : ◌≡◌ {A = ℕ} 11 12 = cc in omega arith
 
       go : (b : Bool) → sound L s ≡ b → b ≡ false
-      go true h = absurd (not-placed (ltb choice.place size) (sym (in-sound h) ∙ q))
+      go true h = absurd (not-placed (ltb choice.place size) (sym (in_sound h) ∙ q))
       go false h = refl
 
   -- ---- a record is found
 
   pub found-taken : (p until : ℕ) → find s peer t ≡ found p until → Taken L s peer t p until
   found-taken p until q =
-      let f : FoundIn L s peer t p until = found_in L s peer t p until (sym in-edition ∙ q) in
+      let f : FoundIn L s peer t p until = found_in L s peer t p until (sym in_edition ∙ q) in
       let w : Takes (serves peer t) (entries L s) choice = takes-here in
       let at : choice.place ≡ p - 1 = omega (arith, f.place_is) in
       let e : Entry = get_or (entries L s) (p - 1) nobody in
       let serving : serves peer t e ≡ true = ap (λ (i : ℕ). serves peer t (get_or (entries L s) i nobody)) (sym at) ∙ w.holds f.inside in
-      let counted : p - 1 < keyCount s = omega (arith, f.place_is, f.inside, entries-length L s) in
+      let counted : p - 1 < key_count s = omega (arith, f.place_is, f.inside, entries-length L s) in
       record {
-        sound-store = f.is-sound;
+        sound_store = f.is_sound_lem;
         from_one = omega (arith, f.place_is);
         inside = omega (arith, f.place_is, f.inside);
-        has-peer = and_left (elem peer e.peers) (fits e.start e.end t) serving;
-        it-fits = and_right (elem peer e.peers) (fits e.start e.end t) serving;
-        its-end = ap (λ (i : ℕ). (get_or (entries L s) i nobody).end) (sym at) ∙ w.its-end f.inside ∙ f.end_is;
-        none-later = λ j l k. omega (arith, w.none-later j l k, f.end_is);
+        has_peer = and_left (elem peer e.peers) (fits e.start e.end t) serving;
+        it_fits = and_right (elem peer e.peers) (fits e.start e.end t) serving;
+        its_end = ap (λ (i : ℕ). (get_or (entries L s) i nobody).end) (sym at) ∙ w.its_end f.inside ∙ f.end_is;
+        none_later = λ j l k. omega (arith, w.none_later j l k, f.end_is);
         first = λ j l k. omega (arith, w.first j (omega (arith, f.place_is)) (omega (arith, f.place_is, f.inside)) k, f.end_is);
-        its-kmac = (find-placed s peer t p until q).key-is ∙ sym (ap (λ (x : Entry). x.kmac) (entries_at L s (p - 1) counted));
+        its_kmac = (find-placed s peer t p until q).key_is ∙ sym (ap (λ (x : Entry). x.kmac) (entries_at L s (p - 1) counted));
       }
 
   pub one_found : sound L s ≡ true → (j : ℕ) → j < size → serves peer t (get_or (entries L s) j nobody) ≡ true → IsFound s peer t
   one_found h j l k =
-      let i : choice.place < keyCount s = omega (arith, takes-here.one-taken j l k, entries-length L s) in
-      record { place = choice.place + 1; end = choice.end; given = in-edition ∙ find_at L s peer t h choice refl i }
+      let i : choice.place < key_count s = omega (arith, takes-here.one_taken j l k, entries-length L s) in
+      record { place = choice.place + 1; end = choice.end; given = in_edition ∙ find_at L s peer t h choice refl i }
 
   -- ---- none is found
 
@@ -88,20 +88,20 @@ module _ (L : Limits) (s : List ℕ) (peer t : ℕ) (known : editionOf (length s
     where
       one-there : sound L s ≡ true → (b : Bool) → ltb choice.place size ≡ b → (x : Bool) → (j : ℕ) → j < size → serves peer t (get_or (entries L s) j nobody) ≡ x → x ≡ false
       one-there h true l x j k q =
-          let i : choice.place < keyCount s = omega (arith, ltb-true choice.place size l, entries-length L s) in
-          not_found 11 (choice.place + 1) choice.end (sym e ∙ in-edition ∙ find_at L s peer t h choice refl i)
-      one-there h false l true j k q = absurd (omega (arith, ltb-false choice.place size l, takes-here.one-taken j k q))
+          let i : choice.place < key_count s = omega (arith, ltb-true choice.place size l, entries-length L s) in
+          not_found 11 (choice.place + 1) choice.end (sym e ∙ in_edition ∙ find_at L s peer t h choice refl i)
+      one-there h false l true j k q = absurd (omega (arith, ltb-false choice.place size l, takes-here.one_taken j k q))
       one-there h false l false j k q = refl
 
       soundly : (b : Bool) → sound L s ≡ b → (sound L s ≡ true) × NoneServes (entries L s) peer t
       soundly true h =
           (h, λ j k. one-there h (ltb choice.place size) refl (serves peer t (get_or (entries L s) j nobody)) j k refl)
-      soundly false h = let z : unfound 11 ≡ unfound 12 = sym e ∙ in-edition ∙ find-unsound L s peer t h in let y : ◌≡◌ {A = ℕ} 11 12 = cc in absurd (omega arith)
+      soundly false h = let z : unfound 11 ≡ unfound 12 = sym e ∙ in_edition ∙ find-unsound L s peer t h in let y : ◌≡◌ {A = ℕ} 11 12 = cc in absurd (omega arith)
 
   pub none_found : sound L s ≡ true → NoneServes (entries L s) peer t → find s peer t ≡ unfound 11
-  none_found h f = in-edition ∙ find_none L s peer t h choice refl (go (ltb choice.place size) refl)
+  none_found h f = in_edition ∙ find_none L s peer t h choice refl (go (ltb choice.place size) refl)
     where
-      go : (b : Bool) → ltb choice.place size ≡ b → keyCount s ≤ choice.place
+      go : (b : Bool) → ltb choice.place size ≡ b → key_count s ≤ choice.place
       go true l =
           let k : choice.place < size = ltb-true choice.place size l in
           clash (serves peer t (get_or (entries L s) choice.place nobody)) (takes-here.holds k) (f choice.place k)

@@ -15,17 +15,17 @@ use Rattle.refusal.proofs.Laws.{not-both}
 use Rattle.store.specs.declared.Limits.{Limits}
 use Rattle.store.specs.declared.Edition.{Edition}
 use Rattle.store.specs.declared.Edition.TheVariants.{Known, Unknown}
-use Rattle.store.specs.Layout.{edition1, edition2, editionOf}
+use Rattle.store.specs.Layout.{edition1, edition2, edition_of}
 use Rattle.store.specs.Store.{encode, entries, sound}
-use Rattle.store.specs.Search.{fits, unfound, findIn, find, emptyIn, emptied}
+use Rattle.store.specs.Search.{fits, unfound, find_in, find, empty_in, emptied}
 use Rattle.store.specs.Request.{Request, work}
 use Rattle.store.specs.WellFormed.{AllReadable}
 use Rattle.store.specs.Claims.{OneStore, HeaderSays, AcceptedSaysEdition, RequestsKeepSound, BothEndsFit, ReversedNeverFits, OneMomentFits, EndlessFits, placeless, LatestTaken, WholeKey, UnsoundExactly, NoKeyExactly, OrderKeepsEnd, RefusedEmptyWritesNothing, OneAnswer}
 use Rattle.store.proofs.SoundLaws.{Sound, sound-says}
-use Rattle.store.proofs.SearchLaws.{Placed, kmac-long, known-edition, find-placed, find-unsound}
-use Rattle.store.proofs.FindLaws.{in-sound, twelve-unsound, found-taken, one_found, none-there, none_found, same_taken}
+use Rattle.store.proofs.SearchLaws.{Placed, kmac_long, known-edition, find-placed, find-unsound}
+use Rattle.store.proofs.FindLaws.{in_sound, twelve-unsound, found-taken, one_found, none-there, none_found, same_taken}
 use Rattle.store.proofs.DecodeLaws.{encode-entries}
-use Rattle.store.proofs.WellFormedLaws.{none-wellFormed, sound-wellFormed}
+use Rattle.store.proofs.WellFormedLaws.{none-well_formed, sound-well_formed}
 use Rattle.store.proofs.EncodeLaws.{entries-encode, encode-sound, one_list}
 use Rattle.store.proofs.RequestLaws.{work-sound}
 use Rattle.store.proofs.AnswerLaws.{found-one, emptied-one}
@@ -33,27 +33,27 @@ use Rattle.store.proofs.AnswerLaws.{found-one, emptied-one}
 pub one_store : OneStore
 one_store =
     record {
-      sound-well-formed = sound-wellFormed;
-      sound-encodes = encode-entries;
-      encodes-sound = λ L es b w. encode-sound L es b w;
-      encodes-back = λ L es b w. entries-encode L es b w;
+      sound_well_formed = sound-well_formed;
+      sound_encodes = encode-entries;
+      encodes_sound = λ L es b w. encode-sound L es b w;
+      encodes_back = λ L es b w. entries-encode L es b w;
       one_list = one_list;
       one_store = λ L s t b c h k e. encode-entries L s b h ∙ ap (encode L) e ∙ sym (encode-entries L t c k);
     }
 
 header-says : (L : Limits) (s : List ℕ) → sound L s ≡ true → HeaderSays L s
-header-says L s h = let w : Sound L s = sound-says L s h in (w.edition-is, w.total-is, w.size)
+header-says L s h = let w : Sound L s = sound-says L s h in (w.edition_is, w.total_is, w.size)
 
-found-sound : (L : Limits) (s : List ℕ) (peer t : ℕ) → (findIn (Known L) s peer t ≡ unfound 12 → ⊥) → HeaderSays L s
+found-sound : (L : Limits) (s : List ℕ) (peer t : ℕ) → (find_in (Known L) s peer t ≡ unfound 12 → ⊥) → HeaderSays L s
 found-sound L s peer t f = go (sound L s) refl
   where
     go : (b : Bool) → sound L s ≡ b → HeaderSays L s
     go true h = header-says L s h
     go false h = absurd (f (find-unsound L s peer t h))
 
-found-edition : (E : Edition) (s : List ℕ) (peer t : ℕ) → ((L : Limits) → E ≡ Known L → (edition1 ≡ L) ⊎ (edition2 ≡ L)) → (findIn E s peer t ≡ unfound 1 → ⊥)
-    → (findIn E s peer t ≡ unfound 12 → ⊥) → HeaderSays edition1 s ⊎ HeaderSays edition2 s
-unfolding findIn
+found-edition : (E : Edition) (s : List ℕ) (peer t : ℕ) → ((L : Limits) → E ≡ Known L → (edition1 ≡ L) ⊎ (edition2 ≡ L)) → (find_in E s peer t ≡ unfound 1 → ⊥)
+    → (find_in E s peer t ≡ unfound 12 → ⊥) → HeaderSays edition1 s ⊎ HeaderSays edition2 s
+unfolding find_in
 found-edition Unknown s peer t k f g = absurd (f refl)
 found-edition (Known L) s peer t k f g =
     let h : HeaderSays L s = found-sound L s peer t g in
@@ -61,7 +61,7 @@ found-edition (Known L) s peer t k f g =
 
 pub accepted-says-edition : AcceptedSaysEdition
 unfolding find
-accepted-says-edition = record { of-sound = header-says; of-find = λ s peer t f g. found-edition _ s peer t (known-edition _) f g }
+accepted-says-edition = record { of_sound = header-says; of_find = λ s peer t f g. found-edition _ s peer t (known-edition _) f g }
 
 first-readable : (n : ℕ) (rs : List Request) → AllReadable rs → AllReadable (take n rs)
 unfolding AllReadable
@@ -73,16 +73,16 @@ pub requests-keep-sound : RequestsKeepSound
 unfolding work AllReadable
 requests-keep-sound =
     record {
-      in-edition-1 = λ own s b h rs f. work-sound edition1 own s b h rs f;
-      in-edition-2 = λ own s b h rs f. work-sound edition2 own s b h rs f;
-      in-any = λ L own s b h rs f. work-sound L own s b h rs f;
+      in_edition_1 = λ own s b h rs f. work-sound edition1 own s b h rs f;
+      in_edition_2 = λ own s b h rs f. work-sound edition2 own s b h rs f;
+      in_any = λ L own s b h rs f. work-sound L own s b h rs f;
       each = λ L own s b h r f. work-sound L own s b h (r ∷ []) (f, tt);
       throughout = λ L own s b h rs f n. work-sound L own s b h (take n rs) (first-readable n rs f);
-      delete-all = λ L b. encode-sound L [] b (none-wellFormed L);
+      delete_all = λ L b. encode-sound L [] b (none-well_formed L);
     }
 
 pub both-ends-fit : BothEndsFit
-both-ends-fit = record { fits-then = is-between; only_then = between-true }
+both-ends-fit = record { fits_then = is-between; only_then = between-true }
 
 pub reversed-never-fits : ReversedNeverFits
 reversed-never-fits = record { never = λ start end t h. go start end t h (ltb t start) refl }
@@ -91,8 +91,8 @@ reversed-never-fits = record { never = λ start end t h. go start end t h (ltb t
     go start end t h true p = under start end t (ltb-true t start p)
     go start end t h false p = over start end t (omega (arith, h, ltb-false t start p))
 
-pub one-moment-fits : OneMomentFits
-one-moment-fits = record { once = λ moment t. go moment t (ltb t moment) (ltb moment t) refl refl }
+pub one_moment_fits : OneMomentFits
+one_moment_fits = record { once = λ moment t. go moment t (ltb t moment) (ltb moment t) refl refl }
   where
     go : (m t : ℕ) (b c : Bool) → ltb t m ≡ b → ltb m t ≡ c → fits m m t ≡ eqb t m
     go m t true c p q = let h = ltb-true t m p in under m m t h ∙ sym (ne_eqb t m (λ e. omega (arith, h)))
@@ -102,8 +102,8 @@ one-moment-fits = record { once = λ moment t. go moment t (ltb t moment) (ltb m
         let h = ltb-false m t q in
         is-between m m t g h ∙ sym (eq-eqb t m (omega (arith, g, h)))
 
-pub endless-fits : EndlessFits
-endless-fits = record { always = λ start t h k. is-between start 0xffffffff t h k }
+pub endless_fits : EndlessFits
+endless_fits = record { always = λ start t h k. is-between start 0xffffffff t h k }
 
 pub latest-taken : LatestTaken
 latest-taken = record { taken = found-taken; one_found = one_found }
@@ -111,17 +111,17 @@ latest-taken = record { taken = found-taken; one_found = one_found }
 pub whole-key : WholeKey
 whole-key =
     record {
-      inside = λ s peer t place end e. (find-placed s peer t place end e).has-record;
-      there = λ s peer t place end e. (find-placed s peer t place end e).key-is;
+      inside = λ s peer t place end e. (find-placed s peer t place end e).has_record;
+      there = λ s peer t place end e. (find-placed s peer t place end e).key_is;
       long = λ s peer t place end e.
           let p : Placed s peer t place = find-placed s peer t place end e in
-          ap length p.key-is ∙ kmac-long s place p.has-record;
+          ap length p.key_is ∙ kmac_long s place p.has_record;
     }
 
-twelve-edition : (E : Edition) (s : List ℕ) (peer t : ℕ) → editionOf (length s) ≡ E → find s peer t ≡ unfound 12 → (L : Limits) × (E ≡ Known L) × (sound L s ≡ false)
-unfolding find findIn
+twelve-edition : (E : Edition) (s : List ℕ) (peer t : ℕ) → edition_of (length s) ≡ E → find s peer t ≡ unfound 12 → (L : Limits) × (E ≡ Known L) × (sound L s ≡ false)
+unfolding find find_in
 twelve-edition Unknown s peer t d q =
-    let z : unfound 1 ≡ unfound 12 = ap (λ (E : Edition). findIn E s peer t) (sym d) ∙ q in
+    let z : unfound 1 ≡ unfound 12 = ap (λ (E : Edition). find_in E s peer t) (sym d) ∙ q in
     let y : ◌≡◌ {A = ℕ} 1 12 = cc in
     absurd (omega arith)
 twelve-edition (Known L) s peer t d q = (L, refl, twelve-unsound L s peer t d q)
@@ -130,29 +130,29 @@ pub unsound-exactly : UnsoundExactly
 unfolding find
 unsound-exactly =
     record {
-      only = λ s peer t q. twelve-edition (editionOf (length s)) s peer t refl q;
-      unsound = λ L s peer t d h. ap (λ (E : Edition). findIn E s peer t) d ∙ find-unsound L s peer t h;
+      only = λ s peer t q. twelve-edition (edition_of (length s)) s peer t refl q;
+      unsound = λ L s peer t d h. ap (λ (E : Edition). find_in E s peer t) d ∙ find-unsound L s peer t h;
     }
 
 pub no-key-exactly : NoKeyExactly
-no-key-exactly = record { none-serves = none-there; no_key = none_found }
+no-key-exactly = record { none_serves = none-there; no_key = none_found }
 
-pub order-keeps-end : OrderKeepsEnd
-order-keeps-end =
+pub order_keeps_end : OrderKeepsEnd
+order_keeps_end =
     record {
       same_end = λ L M s r peer t k l h g there back.
-          ap placeless (in-sound L s peer t k h)
+          ap placeless (in_sound L s peer t k h)
           ∙ same_taken peer t (entries L s) (entries M r) there back
-          ∙ sym (ap placeless (in-sound M r peer t l g));
+          ∙ sym (ap placeless (in_sound M r peer t l g));
     }
 
-pub refused-empty-writes-nothing : RefusedEmptyWritesNothing
-unfolding emptyIn emptied
-refused-empty-writes-nothing = record { kept = λ s n e. kept s n (editionOf (length s)) e }
+pub refused_empty_writes_nothing : RefusedEmptyWritesNothing
+unfolding empty_in emptied
+refused_empty_writes_nothing = record { kept = λ s n e. kept s n (edition_of (length s)) e }
   where
-    kept : (s : List ℕ) (n : ℕ) (d : Edition) → emptyIn d ≡ house n → emptied d s ≡ s
+    kept : (s : List ℕ) (n : ℕ) (d : Edition) → empty_in d ≡ house n → emptied d s ≡ s
     kept s n Unknown e = refl
     kept s n (Known L) e = not-both n 0 (sym e)
 
 pub one_answer : OneAnswer
-one_answer = record { of-find = found-one; of-empty = emptied-one }
+one_answer = record { of_find = found-one; of_empty = emptied-one }

@@ -7,19 +7,19 @@ use Rattle.store.specs.declared.Edition.{Edition}
 use Rattle.store.specs.declared.Edition.TheVariants.{Known, Unknown}
 
 -- the header has 12 bytes, a key record 44, a peer 4
-abbrev pub recordAt : ℕ → ℕ
-recordAt i = 12 + 44 * i
+abbrev pub record_at : ℕ → ℕ
+record_at i = 12 + 44 * i
 
-abbrev pub peersAt : Limits → ℕ
-peersAt L = 12 + 44 * L.keys
+abbrev pub peers_at : Limits → ℕ
+peers_at L = 12 + 44 * L.keys
 
 abbrev pub total : Limits → ℕ
 total L = 12 + 44 * L.keys + 4 * L.peers
 
 -- an edition whose numbers fit the two bytes that the header has for each
 pub record Bounded (L : Limits) : Type 0 where
-  pub edition-fits : L.edition < 65536
-  pub total-fits : 12 + 44 * L.keys + 4 * L.peers < 65536
+  pub edition_fits : L.edition < 65536
+  pub total_fits : 12 + 44 * L.keys + 4 * L.peers < 65536
 
 -- at most 64 keys, at most 256 peers altogether
 abbrev pub edition1 : Limits
@@ -32,14 +32,14 @@ edition2 = record { edition = 2; keys = 500; peers = 4000 }
 abbrev pub editions : List Limits
 editions = edition1 ∷ edition2 ∷ []
 
-abbrev pub pickEdition : Bool → Edition → Edition → Edition
-pickEdition true a b = a
-pickEdition false a b = b
+abbrev pub pick_edition : Bool → Edition → Edition → Edition
+pick_edition true a b = a
+pick_edition false a b = b
 
 -- the first edition of a list that has this length
-unfoldable pub editionIn : List Limits → ℕ → Edition
-editionIn [] n = Unknown
-editionIn (L ∷ Ls) n = pickEdition (eqb n (total L)) (Known L) (editionIn Ls n)
+unfoldable pub edition_in : List Limits → ℕ → Edition
+edition_in [] n = Unknown
+edition_in (L ∷ Ls) n = pick_edition (eqb n (total L)) (Known L) (edition_in Ls n)
 
-unfoldable pub editionOf : ℕ → Edition
-editionOf n = editionIn editions n
+unfoldable pub edition_of : ℕ → Edition
+edition_of n = edition_in editions n

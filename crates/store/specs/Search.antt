@@ -3,9 +3,9 @@
 use Rattle.std.specs.Prelude.{Bool, true, false, ◌&&◌, List, [], ◌∷◌, ℕ, zero, suc, length, leb, ltb}
 use Rattle.octets.specs.Bytes.{between}
 use Rattle.octets.specs.Words.{elem}
-use Rattle.refusal.specs.House.{Answer, house, gives, houseNumber}
-use Rattle.store.specs.Layout.{editionOf}
-use Rattle.store.specs.Store.{Entry, encode, entries, kmacAt, sound}
+use Rattle.refusal.specs.House.{Answer, house, gives, house_number}
+use Rattle.store.specs.Layout.{edition_of}
+use Rattle.store.specs.Store.{Entry, encode, entries, kmac_at, sound}
 use Rattle.store.specs.declared.Choice.{Choice}
 use Rattle.store.specs.declared.Edition.{Edition}
 use Rattle.store.specs.declared.Edition.TheVariants.{Known, Unknown}
@@ -24,25 +24,25 @@ fits start end t = between start end t
 abbrev pub serves : ℕ → ℕ → Entry → Bool
 serves peer t e = elem peer e.peers && fits e.start e.end t
 
-abbrev pub pickNumber : Bool → ℕ → ℕ → ℕ
-pickNumber true a b = a
-pickNumber false a b = b
+abbrev pub pick_number : Bool → ℕ → ℕ → ℕ
+pick_number true a b = a
+pick_number false a b = b
 
 -- the place of the first entry of which p holds, counted from 0; the number of entries where there is none
-unfoldable pub placeWhere : (Entry → Bool) → List Entry → ℕ
-placeWhere p [] = 0
-placeWhere p (e ∷ es) = pickNumber (p e) 0 (suc (placeWhere p es))
+unfoldable pub place_where : (Entry → Bool) → List Entry → ℕ
+place_where p [] = 0
+place_where p (e ∷ es) = pick_number (p e) 0 (suc (place_where p es))
 
 -- one entry more in front, with this end: it is taken where the test holds, else what is taken behind it, one place further on
-abbrev pub oneMore : Bool → ℕ → Choice → Choice
-oneMore true end c = record { place = 0; end = end }
-oneMore false end c = record { place = suc c.place; end = c.end }
+abbrev pub one_more : Bool → ℕ → Choice → Choice
+one_more true end c = record { place = 0; end = end }
+one_more false end c = record { place = suc c.place; end = c.end }
 
 -- of the entries of which p holds, the first with the latest end (change request 7), the ends compared as unsigned numbers: an entry is taken where none
 -- behind it ends later. Its place, counted from 0, and its end; where p holds of none, the number of entries, and 0
 unfoldable pub latest : (Entry → Bool) → List Entry → Choice
 latest p [] = record { place = 0; end = 0 }
-latest p (e ∷ es) = let c = latest p es in oneMore (p e && leb c.end e.end) e.end c
+latest p (e ∷ es) = let c = latest p es in one_more (p e && leb c.end e.end) e.end c
 
 -- the entry that is taken of those that serve
 abbrev pub chosen : ℕ → ℕ → List Entry → Choice
@@ -65,25 +65,25 @@ abbrev pub or_else : Bool → ℕ → Finding → Finding
 or_else true n f = f
 or_else false n f = unfound n
 
-abbrev pub foundAs : Found → Finding
-foundAs (found_as.At p e) = found p e
-foundAs (found_as.Refused h) = unfound (houseNumber h)
+abbrev pub found_as : Found → Finding
+found_as (found_as.At p e) = found p e
+found_as (found_as.Refused h) = unfound (house_number h)
 
 -- the choice among n entries
 abbrev pub placed : Choice → ℕ → Finding
 placed c n = or_else (ltb c.place n) 11 (found (suc c.place) c.end)
 
-unfoldable pub findIn : Edition → List ℕ → ℕ → ℕ → Finding
-findIn Unknown s peer t = unfound 1
-findIn (Known L) s peer t = or_else (sound L s) 12 (placed (chosen peer t (entries L s)) (length (entries L s)))
+unfoldable pub find_in : Edition → List ℕ → ℕ → ℕ → Finding
+find_in Unknown s peer t = unfound 1
+find_in (Known L) s peer t = or_else (sound L s) 12 (placed (chosen peer t (entries L s)) (length (entries L s)))
 
 unfoldable pub find : List ℕ → ℕ → ℕ → Finding
-find s peer t = findIn (editionOf (length s)) s peer t
+find s peer t = find_in (edition_of (length s)) s peer t
 
 -- the KMAC of the record that find names; nothing where it refuses
 abbrev pub key_of : Finding → List ℕ → List ℕ
 key_of (found zero e) s = []
-key_of (found (suc i) e) s = kmacAt s i
+key_of (found (suc i) e) s = kmac_at s i
 key_of (unfound n) s = []
 
 unfoldable pub key : List ℕ → ℕ → ℕ → List ℕ
@@ -91,14 +91,14 @@ key s peer t = key_of (find s peer t) s
 
 -- ---- the empty store: H1
 
-abbrev pub emptiedAs : Emptied → Answer
-emptiedAs emptied-as.Done = gives 0
-emptiedAs (emptied-as.Refused h) = house (houseNumber h)
+abbrev pub emptied_as : Emptied → Answer
+emptied_as emptied-as.Done = gives 0
+emptied_as (emptied-as.Refused h) = house (house_number h)
 
 -- what empty answers, and what it leaves in the buffer
-unfoldable pub emptyIn : Edition → Answer
-emptyIn Unknown = house 1
-emptyIn (Known L) = gives 0
+unfoldable pub empty_in : Edition → Answer
+empty_in Unknown = house 1
+empty_in (Known L) = gives 0
 
 unfoldable pub emptied : Edition → List ℕ → List ℕ
 emptied Unknown s = s

@@ -1,7 +1,7 @@
 -- Entries that a store of an edition can hold, and requests as a message can bring them.
 -- Assumes nothing.
 use Rattle.std.specs.Prelude.{◌≡◌, true, List, [], ◌∷◌, ℕ, ◌≤◌, ◌<◌, length, get_or}
-use Rattle.store.specs.Store.{Entry, peersOf, allOdd}
+use Rattle.store.specs.Store.{Entry, peers_of, all_odd}
 use Rattle.store.specs.Request.{Request, add, delete, validity, entities}
 use Rattle.store.specs.declared.Limits.{Limits}
 
@@ -11,13 +11,13 @@ pub record Words (xs : List ℕ) : Type 0 where
 
 -- the fields of an entry fit their widths
 pub record Fitting (e : Entry) : Type 0 where
-  pub issuer-fits : e.issuer < 4294967296
-  pub serial-fits : e.serial < 4294967296
+  pub issuer_fits : e.issuer < 4294967296
+  pub serial_fits : e.serial < 4294967296
   pub start_fits : e.start < 4294967296
   pub end_fits : e.end < 4294967296
-  pub kmac-long : length e.kmac ≡ 24
-  pub kmac-bytes : (k : ℕ) → get_or e.kmac k 0 < 256
-  pub peers-fit : Words e.peers
+  pub kmac_long : length e.kmac ≡ 24
+  pub kmac_bytes : (k : ℕ) → get_or e.kmac k 0 < 256
+  pub peers_fit : Words e.peers
 
 -- no entry: what stands past the end of a list
 abbrev pub nobody : Entry
@@ -25,10 +25,10 @@ nobody = record { issuer = 0; serial = 0; kmac = []; start = 0; end = 0; peers =
 
 -- the entries are within the limits, their fields fit, their keys are of odd parity, and no two share issuer and serial
 pub record WellFormed (L : Limits) (es : List Entry) : Type 0 where
-  pub keys-fit : length es ≤ L.keys
-  pub peers-fit : length (peersOf es) ≤ L.peers
+  pub keys_fit : length es ≤ L.keys
+  pub peers_fit : length (peers_of es) ≤ L.peers
   pub fitting : (i : ℕ) → i < length es → Fitting (get_or es i nobody)
-  pub odd : (i : ℕ) → i < length es → allOdd (get_or es i nobody).kmac ≡ true
+  pub odd : (i : ℕ) → i < length es → all_odd (get_or es i nobody).kmac ≡ true
   pub apart : (i j : ℕ) → j < i → i < length es
       → (get_or es i nobody).issuer ≡ (get_or es j nobody).issuer → (get_or es i nobody).serial ≡ (get_or es j nobody).serial → ⊥
 

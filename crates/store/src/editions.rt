@@ -1,6 +1,6 @@
 // The editions of the store.
 ghost use Rattle.std.specs.Prelude.{◌≡◌};
-ghost use Rattle.store.specs.Layout.{editionOf};
+ghost use Rattle.store.specs.Layout.{edition_of};
 
 use super::{Edition, Limits};
 
@@ -23,7 +23,7 @@ pub const EDITION_2: Limits = Limits {
 
 // The edition whose stores have this length.
 pub fn edition_of(length: usize) -> Edition
-    ensures { result ≡ editionOf length }
+    ensures { result ≡ edition_of length }
 {
     if length == LENGTH_1 {
         return Edition::Known(EDITION_1);

@@ -6,9 +6,9 @@ pub mod slots;
 pub mod sound;
 
 ghost use Rattle.std.specs.Prelude.{◌≡◌, [], ◌+◌, ◌*◌, ◌-◌, ◌<◌, length};
-ghost use Rattle.store.specs.Layout.{total, Bounded, editionOf};
-ghost use Rattle.store.specs.Store.{HasPlace, kmacAt, encode, sound};
-ghost use Rattle.store.specs.Search.{foundAs, findIn, find, key, emptiedAs, emptyIn, emptied};
+ghost use Rattle.store.specs.Layout.{total, Bounded, edition_of};
+ghost use Rattle.store.specs.Store.{HasPlace, kmac_at, encode, sound};
+ghost use Rattle.store.specs.Search.{found_as, find_in, find, key, emptied_as, empty_in, emptied};
 
 use editions::edition_of;
 use field::put_number;
@@ -65,7 +65,7 @@ pub const PEER: usize = 4;
 // The key for this peer at the moment t, in a store of this edition.
 fn find_in(s: &[u8], lim: Limits, peer: u32, t: u32) -> Found
     requires { Bounded lim }
-    ensures { foundAs result ≡ findIn (Edition.Known lim) s.now peer t }
+    ensures { found_as result ≡ find_in (Edition.Known lim) s.now peer t }
 {
     if !is_sound(s, lim) {
         return Found::Refused(Refusal::StoreUnsound);
@@ -80,7 +80,7 @@ fn find_in(s: &[u8], lim: Limits, peer: u32, t: u32) -> Found
 
 // The key for this peer at the moment t: of the records that fit, the first with the latest end.
 pub fn find(s: &[u8], peer: u32, t: u32) -> Found
-    ensures { foundAs result ≡ find s.now peer t }
+    ensures { found_as result ≡ find s.now peer t }
 {
     match edition_of(s.len()) {
         Edition::Known(lim) => find_in(s, lim, peer, t),
@@ -91,7 +91,7 @@ pub fn find(s: &[u8], peer: u32, t: u32) -> Found
 // The KMAC of the record at a place that find gave, as a part of the store: 24 bytes.
 pub fn kmac_at(s: &[u8], place: usize) -> &[u8]
     requires { HasPlace s.now place }
-    ensures { (result.now ≡ kmacAt s.now (place - 1)) × (length result.now ≡ 24) }
+    ensures { (result.now ≡ kmac_at s.now (place - 1)) × (length result.now ≡ 24) }
 {
     let start = KEYS_AT + RECORD * (place - 1) + 8;
     let end = start + KMAC;
@@ -126,7 +126,7 @@ pub fn write_empty(s: &mut [u8], lim: Limits)
 
 // Writes the empty store of the edition that has the buffer's length, whatever stood there.
 pub fn empty(s: &mut [u8]) -> Emptied
-    ensures { (emptiedAs result ≡ emptyIn (editionOf (length s.old))) × (s.new ≡ emptied (editionOf (length s.old)) s.old) }
+    ensures { (emptied_as result ≡ empty_in (edition_of (length s.old))) × (s.new ≡ emptied (edition_of (length s.old)) s.old) }
 {
     match edition_of(s.len()) {
         Edition::Known(lim) => {

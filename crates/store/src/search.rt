@@ -1,7 +1,7 @@
 // The search for a key (document 01, "Key search").
 ghost use Rattle.std.specs.Prelude.{◌≡◌, true, ◌+◌, ◌*◌, ◌≤◌, ◌<◌, length};
 ghost use Rattle.octets.specs.Words.{numbers, elem};
-ghost use Rattle.store.specs.Store.{keyCount, entries, entry_at, sound};
+ghost use Rattle.store.specs.Store.{key_count, entries, entry_at, sound};
 ghost use Rattle.store.specs.Search.{fits, serves, chosen};
 
 use super::field::number_at;
@@ -38,7 +38,7 @@ fn has(s: &[u8], i: usize, n: usize, x: u32) -> bool
 // The end of record i of a sound store.
 fn end_at(s: &[u8], lim: Limits, i: usize) -> u32
     requires s_value { sound lim s.now ≡ true }
-    requires i_bound { i < keyCount s.now }
+    requires i_bound { i < key_count s.now }
     ensures { result ≡ (entry_at lim s.now i).end }
 {
     get32_at(s, KEYS_AT + RECORD * i + 36)
@@ -47,7 +47,7 @@ fn end_at(s: &[u8], lim: Limits, i: usize) -> u32
 // Whether record i of a sound store serves the peer at the moment t.
 fn serves_at(s: &[u8], lim: Limits, i: usize, peer: u32, t: u32) -> bool
     requires s_value { sound lim s.now ≡ true }
-    requires i_bound { i < keyCount s.now }
+    requires i_bound { i < key_count s.now }
     ensures { result ≡ serves peer t (entry_at lim s.now i) }
 {
     let peers_at = KEYS_AT + RECORD * lim.keys;

@@ -1,8 +1,8 @@
 // Slots for the records of a store. What is marked in a slot tells of most records that none before has the same issuer and serial, so that few
 // are compared with those before.
 ghost use Rattle.std.specs.Prelude.{◌≡◌, ◌+◌, ◌≤◌, ◌<◌, length};
-ghost use Rattle.store.specs.Layout.{recordAt};
-ghost use Rattle.store.specs.Slots.{hashOf, slotOf, fingerprintOf, markedBy, suspect};
+ghost use Rattle.store.specs.Layout.{record_at};
+ghost use Rattle.store.specs.Slots.{hash_of, slot_of, fingerprint_of, marked_by, suspect};
 
 use super::{KEYS_AT, RECORD};
 use octets::get32_at;
@@ -20,8 +20,8 @@ const SEVERAL: u8 = 255;
 
 // A number of issuer and serial of record i, of which most have a slot, or at least a fingerprint there, of their own.
 pub fn hash_at(s: &[u8], i: usize) -> u64
-    requires { (i < 65536) × (recordAt i + 44 ≤ length s.now) }
-    ensures { result ≡ hashOf s.now i }
+    requires { (i < 65536) × (record_at i + 44 ≤ length s.now) }
+    ensures { result ≡ hash_of s.now i }
 {
     let issuer = get32_at(s, KEYS_AT + RECORD * i) as u64;
     let serial = get32_at(s, KEYS_AT + RECORD * i + 4) as u64;
@@ -29,14 +29,14 @@ pub fn hash_at(s: &[u8], i: usize) -> u64
 }
 
 pub fn slot_of(hash: u64) -> usize
-    ensures { (result ≡ slotOf hash) × (result < 1024) }
+    ensures { (result ≡ slot_of hash) × (result < 1024) }
 {
     (hash / 4194304) as usize % SLOTS
 }
 
 // 1 to 254.
 pub fn fingerprint_of(hash: u64) -> u8
-    ensures { result ≡ fingerprintOf hash }
+    ensures { result ≡ fingerprint_of hash }
 {
     (hash % 254 + 1) as u8
 }
@@ -53,7 +53,7 @@ pub fn is_suspect(mark: u8, fingerprint: u8) -> bool
 
 // The mark of a slot with one more record, of this fingerprint.
 pub fn marked(mark: u8, fingerprint: u8) -> u8
-    ensures { result ≡ markedBy mark fingerprint }
+    ensures { result ≡ marked_by mark fingerprint }
 {
     if mark == 0 {
         return fingerprint;

@@ -1,8 +1,8 @@
 // The test of soundness (document 01, "The key store"), condition by condition in the paper's order.
 ghost use Rattle.std.specs.Prelude.{◌≡◌, ◌+◌, ◌*◌, ◌≤◌, ◌<◌, length};
 ghost use Rattle.octets.specs.Bytes.{part};
-ghost use Rattle.store.specs.Layout.{Bounded, recordAt};
-ghost use Rattle.store.specs.Store.{keyCount, peerCount, headerOk, countsOk, sumsOk, sameKey, newKey, uniqueOk, allOdd, parityOk, unusedOk, sound};
+ghost use Rattle.store.specs.Layout.{Bounded, record_at};
+ghost use Rattle.store.specs.Store.{key_count, peer_count, header_ok, counts_ok, sums_ok, same_key, new_key, unique_ok, all_odd, parity_ok, unused_ok, sound};
 
 use super::field::number_at;
 use super::slots::{SLOTS, fingerprint_of, hash_at, is_suspect, marked, slot_of};
@@ -13,7 +13,7 @@ use octets::{get32_at, is_clear};
 fn header_ok(s: &[u8], lim: Limits) -> bool
     requires bounded { Bounded lim }
     requires in_bounds { 12 ≤ length s.now }
-    ensures { result ≡ headerOk lim s.now }
+    ensures { result ≡ header_ok lim s.now }
 {
     let edition = lim.edition;
     let peers_at = KEYS_AT + RECORD * lim.keys;
@@ -33,7 +33,7 @@ fn header_ok(s: &[u8], lim: Limits) -> bool
 // Whether both counts are in their limits.
 pub fn counts_ok(s: &[u8], lim: Limits) -> bool
     requires { 12 ≤ length s.now }
-    ensures { result ≡ countsOk lim s.now }
+    ensures { result ≡ counts_ok lim s.now }
 {
     let keys = lim.keys;
     let peers = lim.peers;
@@ -45,8 +45,8 @@ pub fn counts_ok(s: &[u8], lim: Limits) -> bool
 
 // Whether each first peer index is the sum of the counts before it, and the sum of all is the peer count.
 fn sums_ok(s: &[u8]) -> bool
-    requires { recordAt (keyCount s.now) ≤ length s.now }
-    ensures { result ≡ sumsOk s.now }
+    requires { record_at (key_count s.now) ≤ length s.now }
+    ensures { result ≡ sums_ok s.now }
 {
     let n = number_at(s, 2);
     let m = number_at(s, 6);
@@ -63,10 +63,10 @@ fn sums_ok(s: &[u8]) -> bool
 }
 
 // Whether records i and j share issuer and serial.
-fn same_key(s: &[u8], i: usize, j: usize) -> bool
-    requires i_bound { (i < 65536) × (recordAt i + 44 ≤ length s.now) }
-    requires j_bound { (j < 65536) × (recordAt j + 44 ≤ length s.now) }
-    ensures { result ≡ sameKey s.now i j }
+fn same_found_key(s: &[u8], i: usize, j: usize) -> bool
+    requires i_bound { (i < 65536) × (record_at i + 44 ≤ length s.now) }
+    requires j_bound { (j < 65536) × (record_at j + 44 ≤ length s.now) }
+    ensures { result ≡ same_key s.now i j }
 {
     let a = KEYS_AT + RECORD * i;
     let b = KEYS_AT + RECORD * j;
@@ -78,12 +78,12 @@ fn same_key(s: &[u8], i: usize, j: usize) -> bool
 
 // Whether no record before record i has its issuer and serial.
 fn new_key(s: &[u8], i: usize) -> bool
-    requires { (i < 65536) × (recordAt i + 44 ≤ length s.now) }
-    ensures { result ≡ newKey s.now i }
+    requires { (i < 65536) × (record_at i + 44 ≤ length s.now) }
+    ensures { result ≡ new_key s.now i }
 {
     let mut j = 0;
     while j < i {
-        if same_key(s, i, j) {
+        if same_found_key(s, i, j) {
             return false;
         }
         j += 1;
@@ -93,8 +93,8 @@ fn new_key(s: &[u8], i: usize) -> bool
 
 // Whether no two records share issuer and serial. Only a record that its slot makes suspect is compared with those before it.
 fn unique_ok(s: &[u8]) -> bool
-    requires { recordAt (keyCount s.now) ≤ length s.now }
-    ensures { result ≡ uniqueOk s.now }
+    requires { record_at (key_count s.now) ≤ length s.now }
+    ensures { result ≡ unique_ok s.now }
 {
     let n = number_at(s, 2);
     let mut marks = [0u8; SLOTS];
@@ -118,7 +118,7 @@ fn unique_ok(s: &[u8]) -> bool
 // Whether each byte of the KMAC at index i has an odd number of ones.
 pub fn all_odd(s: &[u8], i: usize) -> bool
     requires { i + 24 ≤ length s.now }
-    ensures { result ≡ allOdd (part s.now i 24) }
+    ensures { result ≡ all_odd (part s.now i 24) }
 {
     let mut k = 0;
     while k < KMAC {
@@ -132,8 +132,8 @@ pub fn all_odd(s: &[u8], i: usize) -> bool
 
 // Whether every KMAC byte has an odd number of ones.
 fn parity_ok(s: &[u8]) -> bool
-    requires { recordAt (keyCount s.now) ≤ length s.now }
-    ensures { result ≡ parityOk s.now }
+    requires { record_at (key_count s.now) ≤ length s.now }
+    ensures { result ≡ parity_ok s.now }
 {
     let n = number_at(s, 2);
     let mut i = 0;
@@ -150,8 +150,8 @@ fn parity_ok(s: &[u8]) -> bool
 fn unused_ok(s: &[u8], lim: Limits) -> bool
     requires bounded { Bounded lim }
     requires s_len { length s.now ≡ 12 + 44 * lim.keys + 4 * lim.peers }
-    requires s_bound { (keyCount s.now ≤ lim.keys) × (peerCount s.now ≤ lim.peers) }
-    ensures { result ≡ unusedOk lim s.now }
+    requires s_bound { (key_count s.now ≤ lim.keys) × (peer_count s.now ≤ lim.peers) }
+    ensures { result ≡ unused_ok lim s.now }
 {
     let keys = lim.keys;
     let peers = lim.peers;

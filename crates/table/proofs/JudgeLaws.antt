@@ -7,8 +7,8 @@ use Prim.Native.Nat.{ℕ}
 use native.Mathlib.Omega.{arith}
 use Rattle.units.specs.declared.Fault.{Fault}
 use Rattle.units.specs.declared.Fault.TheVariants.{Fine, Bad}
-use Rattle.units.specs.Units.{random, au3Unit, arUnit, au1Fault, au2Fault, au3Fault, arFault}
-use Rattle.units.proofs.Theorems.{units-are-built}
+use Rattle.units.specs.Units.{random, au3_unit, ar_unit, au1_fault, au2_fault, au3_fault, ar_fault}
+use Rattle.units.proofs.Theorems.{units_are_built}
 use Rattle.table.specs.declared.Connection.{Connection}
 use Rattle.table.specs.declared.Kind.TheVariants.{Au3, Ar}
 use Rattle.table.specs.declared.State.{State}
@@ -16,11 +16,11 @@ use Rattle.table.specs.declared.State.TheVariants.{IDLE, WFTC, WFAR, WFAU3}
 use Rattle.table.specs.declared.ToUser.TheVariants as user
 use Rattle.table.specs.declared.ToTransport.TheVariants.{TConnReq, TConnResp, SendAu3}
 use Rattle.table.specs.Table.{SaConnReq, TConnInd, TConnConf, AU3, AR, table, state_of, row_in, square}
-use Rattle.table.specs.Steps.{unless, typed, judgedUnit, confirmed, Input, connectRequest, connectIndication, unitIndication, asked, toUser}
+use Rattle.table.specs.Steps.{unless, typed, judged_unit, confirmed, Input, connect_request, connect_indication, unit_indication, asked, to_user}
 use Rattle.table.specs.Claims.{Calls, CalledBy, ConfirmedBy, PredicatesJudge}
 use Rattle.table.proofs.StepLaws.{meets}
 use Rattle.table.proofs.SideLaws.{typed-fine}
-use Rattle.table.proofs.OnlyLaws.{input_of, user-is, transport-is, user-in, transport-in}
+use Rattle.table.proofs.OnlyLaws.{input_of, user_is, transport_is, user_in, transport_in}
 
 -- ---- in the square from which set-up goes on, no fault was found
 
@@ -40,33 +40,33 @@ fine-au2 Fine e = refl
 fine-au2 (Bad r s) e = let z : ◌≡◌ {A = ℕ} 0 1 = cc in absurd (omega arith)
 
 fine-au3 : (c : Connection) (unit : List ℕ) (s : State) → s ≡ WFAU3
-    → toUser (square AU3 s (judgedUnit Au3 s c unit).when).up (judgedUnit Au3 s c unit) ≡ user.ConnectIndication → au3Fault c.key c.own c.ra c.rb unit ≡ Fine
-unfolding judgedUnit square row_in table
+    → to_user (square AU3 s (judged_unit Au3 s c unit).when).up (judged_unit Au3 s c unit) ≡ user.ConnectIndication → au3_fault c.key c.own c.ra c.rb unit ≡ Fine
+unfolding judged_unit square row_in table
 fine-au3 c unit s h e =
-    go (au3Fault c.key c.own c.ra c.rb unit)
-    (subst (λ (s : State). toUser (square AU3 s (judgedUnit Au3 s c unit).when).up (judgedUnit Au3 s c unit) ≡ user.ConnectIndication) h e)
+    go (au3_fault c.key c.own c.ra c.rb unit)
+    (subst (λ (s : State). to_user (square AU3 s (judged_unit Au3 s c unit).when).up (judged_unit Au3 s c unit) ≡ user.ConnectIndication) h e)
   where
-    go : (f : Fault) → toUser (square AU3 WFAU3 (unless 3 f).when).up (unless 3 f) ≡ user.ConnectIndication → f ≡ Fine
+    go : (f : Fault) → to_user (square AU3 WFAU3 (unless 3 f).when).up (unless 3 f) ≡ user.ConnectIndication → f ≡ Fine
     go Fine e = refl
     go (Bad r s) e = let z : ◌≡◌ {A = ℕ} 0 1 = cc in absurd (omega arith)
 
 fine-ar : (c : Connection) (unit : List ℕ) (s : State) → s ≡ WFAR
-    → toUser (square AR s (judgedUnit Ar s c unit).when).up (judgedUnit Ar s c unit) ≡ user.ConnectConfirmation → arFault c.key c.own unit ≡ Fine
-unfolding judgedUnit square row_in table
+    → to_user (square AR s (judged_unit Ar s c unit).when).up (judged_unit Ar s c unit) ≡ user.ConnectConfirmation → ar_fault c.key c.own unit ≡ Fine
+unfolding judged_unit square row_in table
 fine-ar c unit s h e =
-    go (arFault c.key c.own unit)
-    (subst (λ (s : State). toUser (square AR s (judgedUnit Ar s c unit).when).up (judgedUnit Ar s c unit) ≡ user.ConnectConfirmation) h e)
+    go (ar_fault c.key c.own unit)
+    (subst (λ (s : State). to_user (square AR s (judged_unit Ar s c unit).when).up (judged_unit Ar s c unit) ≡ user.ConnectConfirmation) h e)
   where
-    go : (f : Fault) → toUser (square AR WFAR (unless 4 f).when).up (unless 4 f) ≡ user.ConnectConfirmation → f ≡ Fine
+    go : (f : Fault) → to_user (square AR WFAR (unless 4 f).when).up (unless 4 f) ≡ user.ConnectConfirmation → f ≡ Fine
     go Fine e = refl
     go (Bad r s) e = let z : ◌≡◌ {A = ℕ} 0 1 = cc in absurd (omega arith)
 
 -- ---- the events
 
-pub au1-sent : (i : Input) (c : Connection) → (meets i c).down ≡ TConnReq → Calls i c
+pub au1_sent : (i : Input) (c : Connection) → (meets i c).down ≡ TConnReq → Calls i c
 unfolding asked table
-au1-sent i c h =
-    let r = transport-in SaConnReq IDLE TConnReq refl i c h in
+au1_sent i c h =
+    let r = transport_in SaConnReq IDLE TConnReq refl i c h in
     let (b, own, peer, t, rb, store, e) = input_of SaConnReq i c r.0 in
     let d : (square SaConnReq (state_of c.state) (unless 0 (typed b Fine)).when).down ≡ TConnReq = subst (λ (i : Input). (meets i c).down ≡ TConnReq) e h in
     let f = typed-fine b Fine (fine-request (typed b Fine) (subst (λ (s : State). (square SaConnReq s (unless 0 (typed b Fine)).when).down ≡ TConnReq) r.1 d)) in
@@ -76,64 +76,64 @@ au1-sent i c h =
       t = t;
       rb = rb;
       store = store;
-      event-is = e ∙ ap (λ (b : Bool). connectRequest b own peer t rb store) f.0;
+      event_is = e ∙ ap (λ (b : Bool). connect_request b own peer t rb store) f.0;
       in-IDLE = r.1;
     }
 
-pub au2-sent : (i : Input) (c : Connection) → (meets i c).down ≡ TConnResp → CalledBy i c
+pub au2_sent : (i : Input) (c : Connection) → (meets i c).down ≡ TConnResp → CalledBy i c
 unfolding asked table
-au2-sent i c h =
-    let r = transport-in TConnInd IDLE TConnResp refl i c h in
+au2_sent i c h =
+    let r = transport_in TConnInd IDLE TConnResp refl i c h in
     let (b, own, t, ra, unit, store, e) = input_of TConnInd i c r.0 in
-    let g = typed b (au1Fault unit) in
+    let g = typed b (au1_fault unit) in
     let d : (square TConnInd (state_of c.state) (unless 1 g).when).down ≡ TConnResp = subst (λ (i : Input). (meets i c).down ≡ TConnResp) e h in
-    let f = typed-fine b (au1Fault unit) (fine-au1 g (subst (λ (s : State). (square TConnInd s (unless 1 g).when).down ≡ TConnResp) r.1 d)) in
+    let f = typed-fine b (au1_fault unit) (fine-au1 g (subst (λ (s : State). (square TConnInd s (unless 1 g).when).down ≡ TConnResp) r.1 d)) in
     record {
       own = own;
       t = t;
       ra = ra;
       unit = unit;
       store = store;
-      event-is = e ∙ ap (λ (b : Bool). connectIndication b own t ra unit store) f.0;
+      event_is = e ∙ ap (λ (b : Bool). connect_indication b own t ra unit store) f.0;
       in-IDLE = r.1;
-      built = λ bytes. units-are-built.au1 unit bytes f.1;
+      built = λ bytes. units_are_built.au1 unit bytes f.1;
     }
 
-au3-sent : (i : Input) (c : Connection) → (meets i c).down ≡ SendAu3 → ConfirmedBy i c
+au3_sent : (i : Input) (c : Connection) → (meets i c).down ≡ SendAu3 → ConfirmedBy i c
 unfolding asked table
-au3-sent i c h =
-    let r = transport-in TConnConf WFTC SendAu3 refl i c h in
+au3_sent i c h =
+    let r = transport_in TConnConf WFTC SendAu3 refl i c h in
     let (unit, e) = input_of TConnConf i c r.0 in
     let key = (confirmed c (random unit)).key in
-    let g = au2Fault key c.own c.peer c.rb unit in
+    let g = au2_fault key c.own c.peer c.rb unit in
     let d : (square TConnConf (state_of c.state) (unless 2 g).when).down ≡ SendAu3 = subst (λ (i : Input). (meets i c).down ≡ SendAu3) e h in
     let f = fine-au2 g (subst (λ (s : State). (square TConnConf s (unless 2 g).when).down ≡ SendAu3) r.1 d) in
-    record { unit = unit; event-is = e; in-WFTC = r.1; built = λ bytes. units-are-built.au2 key c.own c.peer c.rb unit bytes f }
+    record { unit = unit; event_is = e; in-WFTC = r.1; built = λ bytes. units_are_built.au2 key c.own c.peer c.rb unit bytes f }
 
-indicated : (i : Input) (c : Connection) → toUser (meets i c).up (asked i c).verdict ≡ user.ConnectIndication
-    → (state_of c.state ≡ WFAU3) × (i ≡ unitIndication Au3 (au3Unit c.key c.own c.ra c.rb))
+indicated : (i : Input) (c : Connection) → to_user (meets i c).up (asked i c).verdict ≡ user.ConnectIndication
+    → (state_of c.state ≡ WFAU3) × (i ≡ unit_indication Au3 (au3_unit c.key c.own c.ra c.rb))
 unfolding asked table
 indicated i c h =
-    let r = user-in AU3 WFAU3 user.ConnectIndication refl i c h in
+    let r = user_in AU3 WFAU3 user.ConnectIndication refl i c h in
     let (unit, e) = input_of AU3 i c r.0 in
-    let d = subst (λ (i : Input). toUser (meets i c).up (asked i c).verdict ≡ user.ConnectIndication) e h in
-    (r.1, e ∙ ap (unitIndication Au3) (units-are-built.au3 c.key c.own c.ra c.rb unit (fine-au3 c unit (state_of c.state) r.1 d)))
+    let d = subst (λ (i : Input). to_user (meets i c).up (asked i c).verdict ≡ user.ConnectIndication) e h in
+    (r.1, e ∙ ap (unit_indication Au3) (units_are_built.au3 c.key c.own c.ra c.rb unit (fine-au3 c unit (state_of c.state) r.1 d)))
 
-answered : (i : Input) (c : Connection) → toUser (meets i c).up (asked i c).verdict ≡ user.ConnectConfirmation
-    → (state_of c.state ≡ WFAR) × (i ≡ unitIndication Ar (arUnit c.key c.own))
+answered : (i : Input) (c : Connection) → to_user (meets i c).up (asked i c).verdict ≡ user.ConnectConfirmation
+    → (state_of c.state ≡ WFAR) × (i ≡ unit_indication Ar (ar_unit c.key c.own))
 unfolding asked table
 answered i c h =
-    let r = user-in AR WFAR user.ConnectConfirmation refl i c h in
+    let r = user_in AR WFAR user.ConnectConfirmation refl i c h in
     let (unit, e) = input_of AR i c r.0 in
-    let d = subst (λ (i : Input). toUser (meets i c).up (asked i c).verdict ≡ user.ConnectConfirmation) e h in
-    (r.1, e ∙ ap (unitIndication Ar) (units-are-built.ar c.key c.own unit (fine-ar c unit (state_of c.state) r.1 d)))
+    let d = subst (λ (i : Input). to_user (meets i c).up (asked i c).verdict ≡ user.ConnectConfirmation) e h in
+    (r.1, e ∙ ap (unit_indication Ar) (units_are_built.ar c.key c.own unit (fine-ar c unit (state_of c.state) r.1 d)))
 
-pub predicates-judge : PredicatesJudge
-predicates-judge =
+pub predicates_judge : PredicatesJudge
+predicates_judge =
     record {
-      au1-sent = λ i c out a e h. au1-sent i c (transport-is i c out a TConnReq e h);
-      au2-sent = λ i c out a e h. au2-sent i c (transport-is i c out a TConnResp e h);
-      au3-sent = λ i c out a e h. au3-sent i c (transport-is i c out a SendAu3 e h);
-      indicated = λ i c out a e h. indicated i c (user-is i c out a user.ConnectIndication e h);
-      confirmed = λ i c out a e h. answered i c (user-is i c out a user.ConnectConfirmation e h);
+      au1_sent = λ i c out a e h. au1_sent i c (transport_is i c out a TConnReq e h);
+      au2_sent = λ i c out a e h. au2_sent i c (transport_is i c out a TConnResp e h);
+      au3_sent = λ i c out a e h. au3_sent i c (transport_is i c out a SendAu3 e h);
+      indicated = λ i c out a e h. indicated i c (user_is i c out a user.ConnectIndication e h);
+      confirmed = λ i c out a e h. answered i c (user_is i c out a user.ConnectConfirmation e h);
     }

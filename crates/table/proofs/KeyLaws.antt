@@ -9,14 +9,14 @@ use Rattle.octets.specs.Bytes.{splice}
 use Rattle.octets.proofs.BoolLaws.{clash}
 use Rattle.authentication.specs.Mac.{mac}
 use Rattle.authentication.specs.Unit.{unit_of}
-use Rattle.units.specs.Units.{au2Mac, au2Unit, au3Mac, au3Unit, arMac, arUnit}
+use Rattle.units.specs.Units.{au2_mac, au2_unit, au3_mac, au3_unit, ar_mac, ar_unit}
 use Rattle.table.specs.declared.Connection.{Connection}
 use Rattle.table.specs.declared.Actions.{Actions}
 use Rattle.table.specs.declared.State.TheVariants.{IDLE, WFTC, WFAR, DATA, WFAU3, WFRESP}
 use Rattle.table.specs.declared.ToTransport.{ToTransport}
 use Rattle.table.specs.declared.ToTransport.TheVariants.{Quiet, TConnReq, TConnResp, TDiscReq, TDiscReqDi, SendAu3, SendAr, SendDt}
 use Rattle.table.specs.Table.{Next, stays, to, table, state_of, is}
-use Rattle.table.specs.Steps.{Input, Asked, asked, carried, toUser, after, acts, done, Outcome, perform, step}
+use Rattle.table.specs.Steps.{Input, Asked, asked, carried, to_user, after, acts, done, Outcome, perform, step}
 use Rattle.table.specs.Claims.{shown, bare, Seal, unsealed, sealed, Shows, OnlyMacsShowKeys}
 use Rattle.table.proofs.StepLaws.{meets}
 use Rattle.table.proofs.TableLaws.{every-square}
@@ -29,28 +29,28 @@ front d a = shown d a.about.responder a.about.own a.about.ra a.about.rb a.verdic
 
 record Sealed (d : ToTransport) (a : Asked) : Type 0 where
   pub seal : List ℕ
-  pub unit-is : carried d a ≡ front d a ++ seal
-  pub seal-is : Seal a.about.key (bare d) seal
+  pub unit_is : carried d a ≡ front d a ++ seal
+  pub seal_is : Seal a.about.key (bare d) seal
 
 sealed-unit : (d : ToTransport) (a : Asked) → Sealed d a
-unfolding carried shown au2Unit au2Mac au3Unit au3Mac arUnit arMac unit_of
-sealed-unit Quiet a = record { seal = []; unit-is = refl; seal-is = unsealed }
-sealed-unit TConnReq a = record { seal = []; unit-is = sym (append-nil _); seal-is = unsealed }
-sealed-unit TConnResp a = record { seal = _; unit-is = refl; seal-is = sealed _ _ }
-sealed-unit TDiscReq a = record { seal = []; unit-is = refl; seal-is = unsealed }
-sealed-unit TDiscReqDi a = record { seal = []; unit-is = sym (append-nil _); seal-is = unsealed }
-sealed-unit SendAu3 a = record { seal = _; unit-is = refl; seal-is = sealed _ _ }
-sealed-unit SendAr a = record { seal = _; unit-is = refl; seal-is = sealed _ _ }
-sealed-unit SendDt a = record { seal = _; unit-is = refl; seal-is = sealed _ _ }
+unfolding carried shown au2_unit au2_mac au3_unit au3_mac ar_unit ar_mac unit_of
+sealed-unit Quiet a = record { seal = []; unit_is = refl; seal_is = unsealed }
+sealed-unit TConnReq a = record { seal = []; unit_is = sym (append-nil _); seal_is = unsealed }
+sealed-unit TConnResp a = record { seal = _; unit_is = refl; seal_is = sealed _ _ }
+sealed-unit TDiscReq a = record { seal = []; unit_is = refl; seal_is = unsealed }
+sealed-unit TDiscReqDi a = record { seal = []; unit_is = sym (append-nil _); seal_is = unsealed }
+sealed-unit SendAu3 a = record { seal = _; unit_is = refl; seal_is = sealed _ _ }
+sealed-unit SendAr a = record { seal = _; unit_is = refl; seal_is = sealed _ _ }
+sealed-unit SendDt a = record { seal = _; unit_is = refl; seal_is = sealed _ _ }
 
 -- ---- the key that the connection then has
 
 -- in a square that sends a MAC the connection goes on
-abbrev goesOn : Next → Bool
-goesOn stays = false
-goesOn (to s) = not (is IDLE s)
+abbrev goes_on : Next → Bool
+goes_on stays = false
+goes_on (to s) = not (is IDLE s)
 
-kept-key : (n : Next) (c about : Connection) → goesOn n ≡ true → (after n c about).key ≡ about.key
+kept-key : (n : Next) (c about : Connection) → goes_on n ≡ true → (after n c about).key ≡ about.key
 kept-key stays c about e = clash false e refl
 kept-key (to IDLE) c about e = clash false e refl
 kept-key (to WFTC) c about e = refl
@@ -63,8 +63,8 @@ key-then : (i : Input) (c : Connection) → bare (meets i c).down ≡ false → 
 unfolding table
 key-then i c h =
     kept-key (meets i c).next c (asked i c).about
-    (go (bare (meets i c).down) (goesOn (meets i c).next) h
-    (every-square (λ e s q. bare q.down || goesOn q.next) refl (asked i c).event (state_of c.state) (asked i c).verdict.when))
+    (go (bare (meets i c).down) (goes_on (meets i c).next) h
+    (every-square (λ e s q. bare q.down || goes_on q.next) refl (asked i c).event (state_of c.state) (asked i c).verdict.when))
   where
     go : (x y : Bool) → x ≡ false → (x || y) ≡ true → y ≡ true
     go true y p q = clash true refl p
@@ -77,19 +77,19 @@ resealed k l e (sealed destination text) = subst (λ (k : List ℕ). Seal l fals
 -- ---- a step
 
 shows-performed : (i : Input) (c : Connection) (out : List ℕ) → step i c out ≡ perform (meets i c) (asked i c) c out
-    → Shows i c out (acts (toUser (meets i c).up (asked i c).verdict) (meets i c).down (meets i c).timer (length (carried (meets i c).down (asked i c))))
+    → Shows i c out (acts (to_user (meets i c).up (asked i c).verdict) (meets i c).down (meets i c).timer (length (carried (meets i c).down (asked i c))))
 unfolding perform
 shows-performed i c out p =
     let u = sealed-unit (meets i c).down (asked i c) in
     record {
       seal = u.seal;
-      output-is = ap (λ (o : Outcome). o.output) p ∙ ap (splice out 0) u.unit-is;
-      seal-is = resealed (asked i c).about.key (step i c out).connection.key (λ h. ap (λ (o : Outcome). o.connection.key) p ∙ key-then i c h) u.seal-is;
+      output_is = ap (λ (o : Outcome). o.output) p ∙ ap (splice out 0) u.unit_is;
+      seal_is = resealed (asked i c).about.key (step i c out).connection.key (λ h. ap (λ (o : Outcome). o.connection.key) p ∙ key-then i c h) u.seal_is;
     }
 
-pub only-macs-show-keys : OnlyMacsShowKeys
+pub only_macs_show_keys : OnlyMacsShowKeys
 unfolding perform
-only-macs-show-keys =
+only_macs_show_keys =
     record {
       shows = λ i c out a e.
           let p = step-done i c out a e in

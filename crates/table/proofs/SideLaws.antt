@@ -11,18 +11,18 @@ use borrow.Author.Tests.{le-leb, lt-leb, leb-true, eq-eqb}
 use Rattle.octets.specs.Bytes.{part, splice}
 use Rattle.octets.proofs.SpliceLaws.{splice_all}
 use Rattle.octets.proofs.PartLaws.{part-whole}
-use Rattle.octets.proofs.BoolLaws.{clash, and-false-left}
+use Rattle.octets.proofs.BoolLaws.{clash, and_false_left}
 use Rattle.refusal.specs.declared.Refusal.{Refusal}
-use Rattle.refusal.specs.House.{Answer, house, gives, asks, unlessRefused, houseNumber}
-use Rattle.store.specs.Store.{HasPlace, kmacAt}
+use Rattle.refusal.specs.House.{Answer, house, gives, asks, unless_refused, house_number}
+use Rattle.store.specs.Store.{HasPlace, kmac_at}
 use Rattle.store.specs.Search.{Finding, place_in}
 use Rattle.store.specs.Search as held
 use Rattle.store.proofs.Theorems.{whole-key}
 use Rattle.authentication.specs.declared.Derived.{Derived}
-use Rattle.authentication.specs.Keys.{sessionKeys, derived, Derives}
+use Rattle.authentication.specs.Keys.{session_keys, derived, Derives}
 use Rattle.units.specs.declared.Fault.{Fault}
 use Rattle.units.specs.declared.Fault.TheVariants.{Fine, Bad}
-use Rattle.units.specs.Units.{type_of, senderOf, random, au1Unit, au2Unit, au3Unit, arUnit, diUnit, au1Fault, au2Fault, au2Fields, au2Seal, orNext}
+use Rattle.units.specs.Units.{type_of, sender_of, random, au1_unit, au2_unit, au3_unit, ar_unit, di_unit, au1_fault, au2_fault, au2_fields, au2_seal, or_next}
 use Rattle.units.proofs.UnitLaws.{length-au1, length-au2, length-au3, length-ar, length-di}
 use Rattle.units.proofs.Theorems.{two-halves}
 use Rattle.table.specs.declared.Connection.{Connection}
@@ -33,54 +33,54 @@ use Rattle.table.specs.declared.ToUser.TheVariants as user
 use Rattle.table.specs.declared.ToTransport.TheVariants.{Quiet, TConnReq, TConnResp, TDiscReq, TDiscReqDi, SendAu3, SendAr}
 use Rattle.table.specs.declared.Timer.TheVariants.{Keep, Set, StopAll}
 use Rattle.table.specs.declared.search.Searched.{Searched}
-use Rattle.table.specs.Table.{TConnInd, TConnConf, no, SaDiscInd, to, squareOf, stateCode, state_of, square, row_in, table}
-use Rattle.table.specs.Steps.{idle, calling, called, confirmed, unless, typed, ifTypes, found, connectRequest, connectResponse, connectIndication, connectConfirmation, asked, carried, toUser, withState, acts, step, Does}
-use Rattle.table.specs.Parts.{searchedAs}
+use Rattle.table.specs.Table.{TConnInd, TConnConf, no, SaDiscInd, to, square_of, state_code, state_of, square, row_in, table}
+use Rattle.table.specs.Steps.{idle, calling, called, confirmed, unless, typed, if_types, found, connect_request, connect_response, connect_indication, connect_confirmation, asked, carried, to_user, with_state, acts, step, Does}
+use Rattle.table.specs.Parts.{searched_as}
 use Rattle.table.proofs.StepLaws.{does-refused, step-unfound, does-performed}
-use Rattle.table.proofs.CallLaws.{in-state, quiet-in, sent-in}
+use Rattle.table.proofs.CallLaws.{in_state_lem, quiet_in, sent_in}
 
 -- ---- the search
 
 -- what it answers, in the paper's numbers
-pub searched : {r s : Searched} {a : Answer} → searchedAs r ≡ a → r ≡ s → a ≡ searchedAs s
-searched p q = sym p ∙ ap searchedAs q
+pub searched : {r s : Searched} {a : Answer} → searched_as r ≡ a → r ≡ s → a ≡ searched_as s
+searched p q = sym p ∙ ap searched_as q
 
 -- the types: the first is too large, or the second decides
-pub first-type-over : (own peer x : ℕ) → x ≡ type_of own → 7 < x → false ≡ (leb (type_of own) 7 && leb (type_of peer) 7)
-first-type-over own peer x e h = sym (and-false-left (leb (type_of own) 7) (leb (type_of peer) 7) (lt-leb (type_of own) 7 (omega arith)))
+pub first_type_over : (own peer x : ℕ) → x ≡ type_of own → 7 < x → false ≡ (leb (type_of own) 7 && leb (type_of peer) 7)
+first_type_over own peer x e h = sym (and_false_left (leb (type_of own) 7) (leb (type_of peer) 7) (lt-leb (type_of own) 7 (omega arith)))
 
-pub second-type-decides : (own peer x y : ℕ) → x ≡ type_of own → x ≤ 7 → y ≡ type_of peer → leb y 7 ≡ (leb (type_of own) 7 && leb (type_of peer) 7)
-second-type-decides own peer x y e h f =
+pub second_type_decides : (own peer x y : ℕ) → x ≡ type_of own → x ≤ 7 → y ≡ type_of peer → leb y 7 ≡ (leb (type_of own) 7 && leb (type_of peer) 7)
+second_type_decides own peer x y e h f =
     ap (λ (n : ℕ). leb n 7) f ∙ sym (ap (λ (b : Bool). b && leb (type_of peer) 7) (le-leb (type_of own) 7 (omega arith)))
 
 module _ (store : List ℕ) (own peer t : ℕ) where
   -- what the store's search answers, and whether the types can be served
   pub found-by : (place end : ℕ) (r b : Bool) → held.found place end ≡ held.find store peer t → r ≡ (leb (type_of own) 7 && leb (type_of peer) 7) → r ≡ b
-      → ifTypes b (gives place) ≡ found store own peer t
+      → if_types b (gives place) ≡ found store own peer t
   unfolding found
   found-by place end r b e d h =
-      ap (λ (b : Bool). ifTypes b (gives place)) (sym h ∙ d) ∙ ap (λ (f : Finding). ifTypes (leb (type_of own) 7 && leb (type_of peer) 7) (place_in f)) e
+      ap (λ (b : Bool). if_types b (gives place)) (sym h ∙ d) ∙ ap (λ (f : Finding). if_types (leb (type_of own) 7 && leb (type_of peer) 7) (place_in f)) e
 
   pub unfound-by : (n : ℕ) → held.unfound n ≡ held.find store peer t → house n ≡ found store own peer t
   unfolding found
-  unfound-by n e = ap (λ (f : Finding). ifTypes (leb (type_of own) 7 && leb (type_of peer) 7) (place_in f)) e
+  unfound-by n e = ap (λ (f : Finding). if_types (leb (type_of own) 7 && leb (type_of peer) 7) (place_in f)) e
 
   -- where set-up starts, the own type has three bits
-  served : (f : Finding) (a b : Bool) (n : ℕ) → ifTypes (a && b) (place_in f) ≡ gives n → a ≡ true
+  served : (f : Finding) (a b : Bool) (n : ℕ) → if_types (a && b) (place_in f) ≡ gives n → a ≡ true
   served f true b n e = refl
   served (held.found place end) false b n e = let z : ◌≡◌ {A = ℕ} 0 1 = cc in absurd (omega arith)
   served (held.unfound m) false b n e = let z : ◌≡◌ {A = ℕ} 0 1 = cc in absurd (omega arith)
 
-  type-served : (n : ℕ) → found store own peer t ≡ gives n → type_of own ≤ 7
+  type_served : (n : ℕ) → found store own peer t ≡ gives n → type_of own ≤ 7
   unfolding found
-  type-served n e = leb-true (type_of own) 7 (served (held.find store peer t) (leb (type_of own) 7) (leb (type_of peer) 7) n e)
+  type_served n e = leb-true (type_of own) 7 (served (held.find store peer t) (leb (type_of own) 7) (leb (type_of peer) 7) n e)
 
   -- and so has that of the connection that was made
-  pub made-type : {made about : Connection} (n : ℕ) → found store own peer t ≡ gives n → made ≡ about → about.own ≡ own → type_of made.own ≤ 7
-  made-type n f e o = omega (arith, type-served n f, ap (λ (m : Connection). m.own) e)
+  pub made_type : {made about : Connection} (n : ℕ) → found store own peer t ≡ gives n → made ≡ about → about.own ≡ own → type_of made.own ≤ 7
+  made_type n f e o = omega (arith, type_served n f, ap (λ (m : Connection). m.own) e)
 
   -- and the store's search gave the place
-  placed_by : (f : Finding) (b : Bool) (n : ℕ) → ifTypes b (place_in f) ≡ gives n → (end : ℕ) × (f ≡ held.found n end)
+  placed_by : (f : Finding) (b : Bool) (n : ℕ) → if_types b (place_in f) ≡ gives n → (end : ℕ) × (f ≡ held.found n end)
   placed_by (held.found place end) true n e = (end, cc)
   placed_by (held.found place end) false n e = let z : ◌≡◌ {A = ℕ} 0 1 = cc in absurd (omega arith)
   placed_by (held.unfound m) b n e = let z : ◌≡◌ {A = ℕ} 0 1 = cc in absurd (omega arith)
@@ -93,7 +93,7 @@ module _ (store : List ℕ) (own peer t : ℕ) where
   pub place_inside : (n : ℕ) → found store own peer t ≡ gives n → HasPlace store n
   place_inside n e = let p = place_found n e in whole-key.inside store peer t n p.0 p.1
 
-  pub key-there : (n : ℕ) → found store own peer t ≡ gives n → held.key store peer t ≡ kmacAt store (n - 1)
+  pub key-there : (n : ℕ) → found store own peer t ≡ gives n → held.key store peer t ≡ kmac_at store (n - 1)
   key-there n e = let p = place_found n e in whole-key.there store peer t n p.0 p.1
 
   pub key-whole : (n : ℕ) → found store own peer t ≡ gives n → length (held.key store peer t) ≡ 24
@@ -106,45 +106,45 @@ pub kmac-copied : {kmac s r : List ℕ} → s ≡ kmac → length s ≡ 24 → r
 kmac-copied {kmac} {s} e l w = w ∙ ap (λ (k : List ℕ). splice (replicate 24 0) 0 k) (part-whole s 24 l) ∙ splice_all (replicate 24 0) s (sym l) ∙ e
 
 -- of a whole KMAC the session keys are made
-pub keys-made : (kmac ra rb : List ℕ) {answer : Derived} {key : List ℕ} → length kmac ≡ 24 → Derives kmac ra rb answer key → key ≡ sessionKeys kmac ra rb
+pub keys-made : (kmac ra rb : List ℕ) {answer : Derived} {key : List ℕ} → length kmac ≡ 24 → Derives kmac ra rb answer key → key ≡ session_keys kmac ra rb
 unfolding derived
 keys-made kmac ra rb l d =
-    d.made ∙ ap (λ (b : Bool). unlessRefused (asks b 13 (gives 0)) (sessionKeys kmac ra rb) (replicate 24 0)) (eq-eqb (length kmac) 24 l)
+    d.made ∙ ap (λ (b : Bool). unless_refused (asks b 13 (gives 0)) (session_keys kmac ra rb) (replicate 24 0)) (eq-eqb (length kmac) 24 l)
 
 -- ---- Sa-CONN.req in IDLE
 
 -- no application type, or a wrong one
-pub request-untyped : (acceptable : Bool) (own peer t : ℕ) (rb store : List ℕ) (c : Connection) (out : List ℕ) {answer : Stepped} {then : Connection} → 1032 ≤ length out
+pub request_untyped : (acceptable : Bool) (own peer t : ℕ) (rb store : List ℕ) (c : Connection) (out : List ℕ) {answer : Stepped} {then : Connection} → 1032 ≤ length out
     → state_of c.state ≡ IDLE → not acceptable ≡ true → answer ≡ stepped.Done (acts (user.DisconnectIndication 3 127) Quiet Keep 0) → then ≡ idle
-    → Does (step (connectRequest acceptable own peer t rb store) c out) answer then out
+    → Does (step (connect_request acceptable own peer t rb store) c out) answer then out
 unfolding asked carried square row_in table
-request-untyped true own peer t rb store c out room at wrong p e = clash false wrong refl
-request-untyped false own peer t rb store c out room at wrong p e =
-    quiet-in (connectRequest false own peer t rb store) IDLE (squareOf SaDiscInd Quiet Keep (to IDLE)) c out room refl refl at refl refl refl p e
+request_untyped true own peer t rb store c out room at wrong p e = clash false wrong refl
+request_untyped false own peer t rb store c out room at wrong p e =
+    quiet_in (connect_request false own peer t rb store) IDLE (square_of SaDiscInd Quiet Keep (to IDLE)) c out room refl refl at refl refl refl p e
 
 -- the search refuses
 pub request-refused : (acceptable : Bool) (own peer t : ℕ) (rb store : List ℕ) (c : Connection) (out : List ℕ) (h : Refusal) {answer : Stepped} {then : Connection} → 1032 ≤ length out
-    → state_of c.state ≡ IDLE → not acceptable ≡ false → found store own peer t ≡ house (houseNumber h) → answer ≡ stepped.Refused h → then ≡ c
-    → Does (step (connectRequest acceptable own peer t rb store) c out) answer then out
+    → state_of c.state ≡ IDLE → not acceptable ≡ false → found store own peer t ≡ house (house_number h) → answer ≡ stepped.Refused h → then ≡ c
+    → Does (step (connect_request acceptable own peer t rb store) c out) answer then out
 unfolding asked square row_in table
 request-refused false own peer t rb store c out h room at right f p e = clash true refl right
 request-refused true own peer t rb store c out h {answer} {then} room at right f p e =
-    let i = connectRequest true own peer t rb store in
-    does-refused h (step i c out) c out answer then (step-unfound i c out (squareOf no TConnReq Set (to WFTC)) (houseNumber h) room refl (in-state i c IDLE refl at) f) p e
+    let i = connect_request true own peer t rb store in
+    does-refused h (step i c out) c out answer then (step-unfound i c out (square_of no TConnReq Set (to WFTC)) (house_number h) room refl (in_state_lem i c IDLE refl at) f) p e
 
 -- AU1 goes out
 pub request-sent : (acceptable : Bool) (own peer t : ℕ) (rb store : List ℕ) (c : Connection) (out : List ℕ) (n : ℕ) {answer : Stepped} {then made : Connection} {kmac written : List ℕ}
-    → 1032 ≤ length out → state_of c.state ≡ IDLE → not acceptable ≡ false → length rb ≡ 8 → found store own peer t ≡ gives n → kmac ≡ kmacAt store (n - 1)
-    → made ≡ calling own peer rb kmac → answer ≡ stepped.Done (acts user.Nothing TConnReq Set 13) → then ≡ made → written ≡ splice out 0 (au1Unit made.own made.rb)
-    → Does (step (connectRequest acceptable own peer t rb store) c out) answer then written
+    → 1032 ≤ length out → state_of c.state ≡ IDLE → not acceptable ≡ false → length rb ≡ 8 → found store own peer t ≡ gives n → kmac ≡ kmac_at store (n - 1)
+    → made ≡ calling own peer rb kmac → answer ≡ stepped.Done (acts user.Nothing TConnReq Set 13) → then ≡ made → written ≡ splice out 0 (au1_unit made.own made.rb)
+    → Does (step (connect_request acceptable own peer t rb store) c out) answer then written
 unfolding asked carried square row_in table
 request-sent false own peer t rb store c out n room at right l f k m p e w = clash true refl right
 request-sent true own peer t rb store c out n {answer} {then} {made} {kmac} {written} room at right l f k m p e w =
-    let i = connectRequest true own peer t rb store in
+    let i = connect_request true own peer t rb store in
     let about : made ≡ calling own peer rb (held.key store peer t) = m ∙ ap (λ (k : List ℕ). calling own peer rb k) (k ∙ sym (key-there store own peer t n f)) in
-    does-performed i c out (squareOf no TConnReq Set (to WFTC)) n answer then written room refl (in-state i c IDLE refl at) f
+    does-performed i c out (square_of no TConnReq Set (to WFTC)) n answer then written room refl (in_state_lem i c IDLE refl at) f
     (p ∙ ap (λ (n : ℕ). stepped.Done (acts user.Nothing TConnReq Set n)) (sym (length-au1 own rb l)))
-    (e ∙ about) (w ∙ ap (λ (m : Connection). splice out 0 (au1Unit m.own m.rb)) about)
+    (e ∙ about) (w ∙ ap (λ (m : Connection). splice out 0 (au1_unit m.own m.rb)) about)
 
 -- ---- T-CONN.ind in IDLE
 
@@ -154,94 +154,94 @@ typed-fine true f e = (refl, e)
 typed-fine false f e = let z : ◌≡◌ {A = ℕ} 0 1 = cc in absurd (omega arith)
 
 -- the application type, or the AU1, is wrong
-pub indication-faulty : (acceptable : Bool) (own t : ℕ) (ra unit store : List ℕ) (c : Connection) (out : List ℕ) (reason sub : ℕ) {answer : Stepped} {then : Connection} {written : List ℕ}
-    → 1032 ≤ length out → state_of c.state ≡ IDLE → typed acceptable (au1Fault unit) ≡ Bad reason sub → answer ≡ stepped.Done (acts user.Nothing TDiscReqDi Keep 3) → then ≡ idle
-    → written ≡ splice out 0 (diUnit true reason sub) → Does (step (connectIndication acceptable own t ra unit store) c out) answer then written
+pub indication_faulty : (acceptable : Bool) (own t : ℕ) (ra unit store : List ℕ) (c : Connection) (out : List ℕ) (reason sub : ℕ) {answer : Stepped} {then : Connection} {written : List ℕ}
+    → 1032 ≤ length out → state_of c.state ≡ IDLE → typed acceptable (au1_fault unit) ≡ Bad reason sub → answer ≡ stepped.Done (acts user.Nothing TDiscReqDi Keep 3) → then ≡ idle
+    → written ≡ splice out 0 (di_unit true reason sub) → Does (step (connect_indication acceptable own t ra unit store) c out) answer then written
 unfolding asked carried square row_in table
-indication-faulty acceptable own t ra unit store c out reason sub room at f p e w =
-    let di : Fault → List ℕ = λ f. diUnit true (unless 1 f).why.reason (unless 1 f).why.sub in
-    sent-in (connectIndication acceptable own t ra unit store) IDLE (squareOf no TDiscReqDi Keep (to IDLE)) c out room refl refl at
+indication_faulty acceptable own t ra unit store c out reason sub room at f p e w =
+    let di : Fault → List ℕ = λ f. di_unit true (unless 1 f).why.reason (unless 1 f).why.sub in
+    sent_in (connect_indication acceptable own t ra unit store) IDLE (square_of no TDiscReqDi Keep (to IDLE)) c out room refl refl at
     (ap (λ (f : Fault). square TConnInd IDLE (unless 1 f).when) f) refl
     (p ∙ ap (λ (n : ℕ). stepped.Done (acts user.Nothing TDiscReqDi Keep n)) (sym (length-di true reason sub) ∙ sym (ap (λ (f : Fault). length (di f)) f)))
     e (w ∙ sym (ap (λ (f : Fault). splice out 0 (di f)) f))
 
-module _ (own t : ℕ) (ra unit store : List ℕ) (c : Connection) (out : List ℕ) (room : 1032 ≤ length out) (at : state_of c.state ≡ IDLE) (fine : au1Fault unit ≡ Fine) where
+module _ (own t : ℕ) (ra unit store : List ℕ) (c : Connection) (out : List ℕ) (room : 1032 ≤ length out) (at : state_of c.state ≡ IDLE) (fine : au1_fault unit ≡ Fine) where
   -- the search refuses
-  pub indication-refused : (h : Refusal) {answer : Stepped} {then : Connection} {peer : ℕ} → peer ≡ senderOf unit → found store own peer t ≡ house (houseNumber h)
-      → answer ≡ stepped.Refused h → then ≡ c → Does (step (connectIndication true own t ra unit store) c out) answer then out
+  pub indication-refused : (h : Refusal) {answer : Stepped} {then : Connection} {peer : ℕ} → peer ≡ sender_of unit → found store own peer t ≡ house (house_number h)
+      → answer ≡ stepped.Refused h → then ≡ c → Does (step (connect_indication true own t ra unit store) c out) answer then out
   unfolding asked square row_in table
   indication-refused h {answer} {then} s f p e =
-      let i = connectIndication true own t ra unit store in
+      let i = connect_indication true own t ra unit store in
       does-refused h (step i c out) c out answer then
-      (step-unfound i c out (squareOf no TConnResp Keep (to WFAU3)) (houseNumber h) room refl
-      (in-state i c IDLE refl at ∙ ap (λ (f : Fault). square TConnInd IDLE (unless 1 f).when) fine)
+      (step-unfound i c out (square_of no TConnResp Keep (to WFAU3)) (house_number h) room refl
+      (in_state_lem i c IDLE refl at ∙ ap (λ (f : Fault). square TConnInd IDLE (unless 1 f).when) fine)
       (sym (ap (λ (x : ℕ). found store own x t) s) ∙ f))
       p e
 
   -- AU2 goes out
-  pub indication-answered : (n : ℕ) {answer : Stepped} {then made : Connection} {rb kmac written : List ℕ} {peer : ℕ} → length ra ≡ 8 → peer ≡ senderOf unit → found store own peer t ≡ gives n
-      → rb ≡ random unit → kmac ≡ kmacAt store (n - 1) → made ≡ called own peer ra rb kmac → answer ≡ stepped.Done (acts user.Nothing TConnResp Keep 21) → then ≡ made
-      → written ≡ splice out 0 (au2Unit made.key made.own made.peer made.ra made.rb) → Does (step (connectIndication true own t ra unit store) c out) answer then written
+  pub indication-answered : (n : ℕ) {answer : Stepped} {then made : Connection} {rb kmac written : List ℕ} {peer : ℕ} → length ra ≡ 8 → peer ≡ sender_of unit → found store own peer t ≡ gives n
+      → rb ≡ random unit → kmac ≡ kmac_at store (n - 1) → made ≡ called own peer ra rb kmac → answer ≡ stepped.Done (acts user.Nothing TConnResp Keep 21) → then ≡ made
+      → written ≡ splice out 0 (au2_unit made.key made.own made.peer made.ra made.rb) → Does (step (connect_indication true own t ra unit store) c out) answer then written
   unfolding asked carried square row_in table
   indication-answered n {answer} {then} {made} {rb} {kmac} {written} {peer} l s f r k m p e w =
-      let i = connectIndication true own t ra unit store in
+      let i = connect_indication true own t ra unit store in
       let keyed : made ≡ called own peer ra rb (held.key store peer t) = m ∙ ap (λ (k : List ℕ). called own peer ra rb k) (k ∙ sym (key-there store own peer t n f)) in
       let read : made ≡ called own peer ra (random unit) (held.key store peer t) = keyed ∙ ap (λ (r : List ℕ). called own peer ra r (held.key store peer t)) r in
-      let about : made ≡ called own (senderOf unit) ra (random unit) (held.key store (senderOf unit) t) = read ∙ ap (λ (x : ℕ). called own x ra (random unit) (held.key store x t)) s in
-      does-performed i c out (squareOf no TConnResp Keep (to WFAU3)) n answer then written room refl
-      (in-state i c IDLE refl at ∙ ap (λ (f : Fault). square TConnInd IDLE (unless 1 f).when) fine)
+      let about : made ≡ called own (sender_of unit) ra (random unit) (held.key store (sender_of unit) t) = read ∙ ap (λ (x : ℕ). called own x ra (random unit) (held.key store x t)) s in
+      does-performed i c out (square_of no TConnResp Keep (to WFAU3)) n answer then written room refl
+      (in_state_lem i c IDLE refl at ∙ ap (λ (f : Fault). square TConnInd IDLE (unless 1 f).when) fine)
       (sym (ap (λ (x : ℕ). found store own x t) s) ∙ f)
-      (p ∙ ap (λ (n : ℕ). stepped.Done (acts user.Nothing TConnResp Keep n)) (sym (length-au2 _ own (senderOf unit) ra (random unit) l)))
-      (e ∙ about) (w ∙ ap (λ (m : Connection). splice out 0 (au2Unit m.key m.own m.peer m.ra m.rb)) about)
+      (p ∙ ap (λ (n : ℕ). stepped.Done (acts user.Nothing TConnResp Keep n)) (sym (length-au2 _ own (sender_of unit) ra (random unit) l)))
+      (e ∙ about) (w ∙ ap (λ (m : Connection). splice out 0 (au2_unit m.key m.own m.peer m.ra m.rb)) about)
 
 -- ---- T-CONN.conf in WFTC
 
 -- the AU2 as a whole, and its fields and the rest
 abbrev au2 : List ℕ → Connection → Fault
-au2 unit c = au2Fault (confirmed c (random unit)).key c.own c.peer c.rb unit
+au2 unit c = au2_fault (confirmed c (random unit)).key c.own c.peer c.rb unit
 
 abbrev seal : Connection → List ℕ → Fault
-seal m unit = au2Seal m.key m.own m.rb unit
+seal m unit = au2_seal m.key m.own m.rb unit
 
 module _ (unit : List ℕ) (c : Connection) where
-  pub by-fields : (reason sub : ℕ) → au2Fields c.peer unit ≡ Bad reason sub → au2 unit c ≡ Bad reason sub
-  by-fields reason sub e = two-halves.au2 _ c.own c.peer c.rb unit ∙ ap (λ (f : Fault). orNext f (seal (confirmed c (random unit)) unit)) e
+  pub by-fields : (reason sub : ℕ) → au2_fields c.peer unit ≡ Bad reason sub → au2 unit c ≡ Bad reason sub
+  by-fields reason sub e = two-halves.au2 _ c.own c.peer c.rb unit ∙ ap (λ (f : Fault). or_next f (seal (confirmed c (random unit)) unit)) e
 
-  pub by-seal : {made : Connection} {ra : List ℕ} {f g : Fault} → au2Fields c.peer unit ≡ Fine → ra ≡ random unit → made ≡ confirmed c ra → f ≡ seal made unit → f ≡ g → au2 unit c ≡ g
+  pub by-seal : {made : Connection} {ra : List ℕ} {f g : Fault} → au2_fields c.peer unit ≡ Fine → ra ≡ random unit → made ≡ confirmed c ra → f ≡ seal made unit → f ≡ g → au2 unit c ≡ g
   by-seal e r m s d =
       two-halves.au2 _ c.own c.peer c.rb unit
-      ∙ ap (λ (f : Fault). orNext f (seal (confirmed c (random unit)) unit)) e
+      ∙ ap (λ (f : Fault). or_next f (seal (confirmed c (random unit)) unit)) e
       ∙ sym (ap (λ (m : Connection). seal m unit) (m ∙ ap (λ (r : List ℕ). confirmed c r) r))
       ∙ sym s
       ∙ d
 
 module _ (unit : List ℕ) (c : Connection) (out : List ℕ) (room : 1032 ≤ length out) (at : state_of c.state ≡ WFTC) where
   -- the AU2 is wrong
-  pub confirmation-faulty : (reason sub : ℕ) {answer : Stepped} {then : Connection} → au2 unit c ≡ Bad reason sub → answer ≡ stepped.Done (acts (user.DisconnectIndication reason sub) TDiscReq StopAll 0)
-      → then ≡ idle → Does (step (connectConfirmation unit) c out) answer then out
+  pub confirmation_faulty : (reason sub : ℕ) {answer : Stepped} {then : Connection} → au2 unit c ≡ Bad reason sub → answer ≡ stepped.Done (acts (user.DisconnectIndication reason sub) TDiscReq StopAll 0)
+      → then ≡ idle → Does (step (connect_confirmation unit) c out) answer then out
   unfolding asked carried square row_in table
-  confirmation-faulty reason sub f p e =
-      quiet-in (connectConfirmation unit) WFTC (squareOf SaDiscInd TDiscReq StopAll (to IDLE)) c out room refl refl at (ap (λ (f : Fault). square TConnConf WFTC (unless 2 f).when) f) refl refl
-      (p ∙ sym (ap (λ (f : Fault). stepped.Done (acts (toUser SaDiscInd (unless 2 f)) TDiscReq StopAll 0)) f))
+  confirmation_faulty reason sub f p e =
+      quiet_in (connect_confirmation unit) WFTC (square_of SaDiscInd TDiscReq StopAll (to IDLE)) c out room refl refl at (ap (λ (f : Fault). square TConnConf WFTC (unless 2 f).when) f) refl refl
+      (p ∙ sym (ap (λ (f : Fault). stepped.Done (acts (to_user SaDiscInd (unless 2 f)) TDiscReq StopAll 0)) f))
       e
 
   -- AU3 goes out
-  pub confirmation-answered : {answer : Stepped} {then made : Connection} {ra written : List ℕ} → au2 unit c ≡ Fine → ra ≡ random unit → made ≡ confirmed c ra
-      → answer ≡ stepped.Done (acts user.Nothing SendAu3 Keep 9) → then ≡ withState made (stateCode WFAR) → written ≡ splice out 0 (au3Unit made.key made.peer made.ra made.rb)
-      → Does (step (connectConfirmation unit) c out) answer then written
+  pub confirmation_answered : {answer : Stepped} {then made : Connection} {ra written : List ℕ} → au2 unit c ≡ Fine → ra ≡ random unit → made ≡ confirmed c ra
+      → answer ≡ stepped.Done (acts user.Nothing SendAu3 Keep 9) → then ≡ with_state made (state_code WFAR) → written ≡ splice out 0 (au3_unit made.key made.peer made.ra made.rb)
+      → Does (step (connect_confirmation unit) c out) answer then written
   unfolding asked carried square row_in table
-  confirmation-answered {answer} {then} {made} f r m p e w =
+  confirmation_answered {answer} {then} {made} f r m p e w =
       let about : made ≡ confirmed c (random unit) = m ∙ ap (λ (r : List ℕ). confirmed c r) r in
-      sent-in (connectConfirmation unit) WFTC (squareOf no SendAu3 Keep (to WFAR)) c out room refl refl at (ap (λ (f : Fault). square TConnConf WFTC (unless 2 f).when) f) refl
+      sent_in (connect_confirmation unit) WFTC (square_of no SendAu3 Keep (to WFAR)) c out room refl refl at (ap (λ (f : Fault). square TConnConf WFTC (unless 2 f).when) f) refl
       (p ∙ ap (λ (n : ℕ). stepped.Done (acts user.Nothing SendAu3 Keep n)) (sym (length-au3 _ c.peer (random unit) c.rb)))
-      (e ∙ ap (λ (m : Connection). withState m (stateCode WFAR)) about)
-      (w ∙ ap (λ (m : Connection). splice out 0 (au3Unit m.key m.peer m.ra m.rb)) about)
+      (e ∙ ap (λ (m : Connection). with_state m (state_code WFAR)) about)
+      (w ∙ ap (λ (m : Connection). splice out 0 (au3_unit m.key m.peer m.ra m.rb)) about)
 
 -- ---- Sa-CONN.resp in WFRESP: AR goes out
 
-pub response-sent : (c : Connection) (out : List ℕ) {answer : Stepped} {then : Connection} {written : List ℕ} → 1032 ≤ length out → state_of c.state ≡ WFRESP
-    → answer ≡ stepped.Done (acts user.Nothing SendAr Keep 9) → then ≡ withState c (stateCode DATA) → written ≡ splice out 0 (arUnit c.key c.peer) → Does (step connectResponse c out) answer then written
+pub response_sent : (c : Connection) (out : List ℕ) {answer : Stepped} {then : Connection} {written : List ℕ} → 1032 ≤ length out → state_of c.state ≡ WFRESP
+    → answer ≡ stepped.Done (acts user.Nothing SendAr Keep 9) → then ≡ with_state c (state_code DATA) → written ≡ splice out 0 (ar_unit c.key c.peer) → Does (step connect_response c out) answer then written
 unfolding asked carried square row_in table
-response-sent c out room at p e w =
-    sent-in connectResponse WFRESP (squareOf no SendAr Keep (to DATA)) c out room refl refl at refl refl
+response_sent c out room at p e w =
+    sent_in connect_response WFRESP (square_of no SendAr Keep (to DATA)) c out room refl refl at refl refl
     (p ∙ ap (λ (n : ℕ). stepped.Done (acts user.Nothing SendAr Keep n)) (sym (length-ar c.key c.peer))) e w

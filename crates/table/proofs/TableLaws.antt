@@ -9,7 +9,7 @@ use borrow.Author.Tests.{eqb-true}
 use Rattle.octets.proofs.BoolLaws.{clash, and_left, and_right}
 use Rattle.table.specs.declared.State.{State}
 use Rattle.table.specs.declared.State.TheVariants.{IDLE, WFTC, WFAR, DATA, WFAU3, WFRESP}
-use Rattle.table.specs.Table.{Event, SaConnReq, SaConnResp, SaDataReq, SaDiscReq, TConnInd, TConnConf, TDiscInd, AU3, AR, DT, TimeOut, Judged, to, Square, squareOf, Row, row, table, stateCode, is, eventCode, agrees, row_in, filled, blank, square}
+use Rattle.table.specs.Table.{Event, SaConnReq, SaConnResp, SaDataReq, SaDiscReq, TConnInd, TConnConf, TDiscInd, AU3, AR, DT, TimeOut, Judged, to, Square, square_of, Row, row, table, state_code, is, event_code, agrees, row_in, filled, blank, square}
 use Rattle.table.specs.Claims.{RowsFound}
 
 pub rows-found : RowsFound
@@ -38,13 +38,13 @@ every-pick p x [] h n = h
 every-pick p x (y ∷ ys) h zero = and_left (p x) (every p y ys) h
 every-pick p x (y ∷ ys) h (suc n) = every-pick p y ys (and_right (p x) (every p y ys) h) n
 
-abbrev eventAt : ℕ → Event
-eventAt = pick SaConnReq (SaConnResp ∷ SaDataReq ∷ SaDiscReq ∷ TConnInd ∷ TConnConf ∷ TDiscInd ∷ AU3 ∷ AR ∷ DT ∷ TimeOut ∷ [])
+abbrev event_at : ℕ → Event
+event_at = pick SaConnReq (SaConnResp ∷ SaDataReq ∷ SaDiscReq ∷ TConnInd ∷ TConnConf ∷ TDiscInd ∷ AU3 ∷ AR ∷ DT ∷ TimeOut ∷ [])
 
-abbrev stateAt : ℕ → State
-stateAt = pick IDLE (WFTC ∷ WFAR ∷ DATA ∷ WFAU3 ∷ WFRESP ∷ [])
+abbrev state_at : ℕ → State
+state_at = pick IDLE (WFTC ∷ WFAR ∷ DATA ∷ WFAU3 ∷ WFRESP ∷ [])
 
-event-back : (e : Event) → eventAt (eventCode e) ≡ e
+event-back : (e : Event) → event_at (event_code e) ≡ e
 event-back SaConnReq = refl
 event-back SaConnResp = refl
 event-back SaDataReq = refl
@@ -57,7 +57,7 @@ event-back AR = refl
 event-back DT = refl
 event-back TimeOut = refl
 
-state-back : (s : State) → stateAt (stateCode s) ≡ s
+state-back : (s : State) → state_at (state_code s) ≡ s
 state-back IDLE = refl
 state-back WFTC = refl
 state-back WFAR = refl
@@ -65,70 +65,70 @@ state-back DATA = refl
 state-back WFAU3 = refl
 state-back WFRESP = refl
 
-pub same-event : (e e' : Event) → eqb (eventCode e) (eventCode e') ≡ true → e ≡ e'
-same-event e e' h = sym (event-back e) ∙ ap eventAt (eqb-true (eventCode e) (eventCode e') h) ∙ event-back e'
+pub same-event : (e e' : Event) → eqb (event_code e) (event_code e') ≡ true → e ≡ e'
+same-event e e' h = sym (event-back e) ∙ ap event_at (eqb-true (event_code e) (event_code e') h) ∙ event-back e'
 
 pub same-state : (s s' : State) → is s s' ≡ true → s ≡ s'
-same-state s s' h = sym (state-back s) ∙ ap stateAt (eqb-true (stateCode s) (stateCode s') h) ∙ state-back s'
+same-state s s' h = sym (state-back s) ∙ ap state_at (eqb-true (state_code s) (state_code s') h) ∙ state-back s'
 
-abbrev pub everyState : (State → Bool) → Bool
-everyState p = every p IDLE (WFTC ∷ WFAR ∷ DATA ∷ WFAU3 ∷ WFRESP ∷ [])
+abbrev pub every_state : (State → Bool) → Bool
+every_state p = every p IDLE (WFTC ∷ WFAR ∷ DATA ∷ WFAU3 ∷ WFRESP ∷ [])
 
-pub every-state : (p : State → Bool) → everyState p ≡ true → (s : State) → p s ≡ true
+pub every-state : (p : State → Bool) → every_state p ≡ true → (s : State) → p s ≡ true
 every-state p h s =
-    subst (λ (s : State). p s ≡ true) (state-back s) (every-pick p IDLE (WFTC ∷ WFAR ∷ DATA ∷ WFAU3 ∷ WFRESP ∷ []) h (stateCode s))
+    subst (λ (s : State). p s ≡ true) (state-back s) (every-pick p IDLE (WFTC ∷ WFAR ∷ DATA ∷ WFAU3 ∷ WFRESP ∷ []) h (state_code s))
 
-abbrev pub everyEvent : (Event → Bool) → Bool
-everyEvent p = every p SaConnReq (SaConnResp ∷ SaDataReq ∷ SaDiscReq ∷ TConnInd ∷ TConnConf ∷ TDiscInd ∷ AU3 ∷ AR ∷ DT ∷ TimeOut ∷ [])
+abbrev pub every_event : (Event → Bool) → Bool
+every_event p = every p SaConnReq (SaConnResp ∷ SaDataReq ∷ SaDiscReq ∷ TConnInd ∷ TConnConf ∷ TDiscInd ∷ AU3 ∷ AR ∷ DT ∷ TimeOut ∷ [])
 
-pub every-event : (p : Event → Bool) → everyEvent p ≡ true → (e : Event) → p e ≡ true
+pub every-event : (p : Event → Bool) → every_event p ≡ true → (e : Event) → p e ≡ true
 every-event p h e =
     subst (λ (e : Event). p e ≡ true) (event-back e)
-    (every-pick p SaConnReq (SaConnResp ∷ SaDataReq ∷ SaDiscReq ∷ TConnInd ∷ TConnConf ∷ TDiscInd ∷ AU3 ∷ AR ∷ DT ∷ TimeOut ∷ []) h (eventCode e))
+    (every-pick p SaConnReq (SaConnResp ∷ SaDataReq ∷ SaDiscReq ∷ TConnInd ∷ TConnConf ∷ TDiscInd ∷ AU3 ∷ AR ∷ DT ∷ TimeOut ∷ []) h (event_code e))
 
 -- ---- a test of all squares
 
 abbrev pub all_rows : (Event → State → Square → Bool) → List Row → Bool
 all_rows p [] = true
-all_rows p (row e s j up down timer next ∷ rs) = p e s (squareOf up down timer (to next)) && all_rows p rs
+all_rows p (row e s j up down timer next ∷ rs) = p e s (square_of up down timer (to next)) && all_rows p rs
 
 row_has : (p : Event → State → Square → Bool) (rs : List Row) → all_rows p rs ≡ true → (e : Event) (s : State) (j : Judged) (q : Square) → p e s q ≡ true
     → p e s (row_in rs e s j q) ≡ true
 unfolding row_in
 row_has p [] h e s j q b = b
 row_has p (row e' s' j' up down timer next ∷ rs) h e s j q b =
-    go (eqb (eventCode e') (eventCode e)) (is s' s) (agrees j' j) refl refl (row_has p rs (and_right (p e' s' here) (all_rows p rs) h) e s j q b)
+    go (eqb (event_code e') (event_code e)) (is s' s) (agrees j' j) refl refl (row_has p rs (and_right (p e' s' here) (all_rows p rs) h) e s j q b)
   where
     here : Square
-    here = squareOf up down timer (to next)
+    here = square_of up down timer (to next)
 
-    go : (x y z : Bool) → eqb (eventCode e') (eventCode e) ≡ x → is s' s ≡ y → p e s (row_in rs e s j q) ≡ true
-        → p e s (cond (x && (y && z)) (squareOf up down timer (to next)) (row_in rs e s j q)) ≡ true
+    go : (x y z : Bool) → eqb (event_code e') (event_code e) ≡ x → is s' s ≡ y → p e s (row_in rs e s j q) ≡ true
+        → p e s (cond (x && (y && z)) (square_of up down timer (to next)) (row_in rs e s j q)) ≡ true
     go true true true f g r =
-        subst₂ (λ (e : Event) (s : State). p e s (squareOf up down timer (to next)) ≡ true) (same-event e' e f) (same-state s' s g) (and_left (p e' s' here) (all_rows p rs) h)
+        subst₂ (λ (e : Event) (s : State). p e s (square_of up down timer (to next)) ≡ true) (same-event e' e f) (same-state s' s g) (and_left (p e' s' here) (all_rows p rs) h)
     go true true false f g r = r
     go true false z f g r = r
     go false y z f g r = r
 
 -- what holds of every row, and of every blank square, holds of every square
-abbrev pub everySquare : (Event → State → Square → Bool) → Bool
-everySquare p = all_rows p table && everyEvent (λ e. everyState (λ s. p e s (blank e s)))
+abbrev pub every_square : (Event → State → Square → Bool) → Bool
+every_square p = all_rows p table && every_event (λ e. every_state (λ s. p e s (blank e s)))
 
-pub every-square : (p : Event → State → Square → Bool) → everySquare p ≡ true → (e : Event) (s : State) (j : Judged) → p e s (square e s j) ≡ true
+pub every-square : (p : Event → State → Square → Bool) → every_square p ≡ true → (e : Event) (s : State) (j : Judged) → p e s (square e s j) ≡ true
 unfolding square
 every-square p h e s j =
-    let rows = and_left (all_rows p table) (everyEvent (λ e. everyState (λ s. p e s (blank e s)))) h in
-    let blanks = and_right (all_rows p table) (everyEvent (λ e. everyState (λ s. p e s (blank e s)))) h in
-    row_has p table rows e s j (blank e s) (every-state (λ s. p e s (blank e s)) (every-event (λ e. everyState (λ s. p e s (blank e s))) blanks e) s)
+    let rows = and_left (all_rows p table) (every_event (λ e. every_state (λ s. p e s (blank e s)))) h in
+    let blanks = and_right (all_rows p table) (every_event (λ e. every_state (λ s. p e s (blank e s)))) h in
+    row_has p table rows e s j (blank e s) (every-state (λ s. p e s (blank e s)) (every-event (λ e. every_state (λ s. p e s (blank e s))) blanks e) s)
 
 -- a square without a row is blank
 row-none : (rs : List Row) (e : Event) (s : State) (j : Judged) (q : Square) → filled rs e s ≡ false → row_in rs e s j q ≡ q
 unfolding row_in filled
 row-none [] e s j q h = refl
-row-none (row e' s' j' up down timer next ∷ rs) e s j q h = go (eqb (eventCode e') (eventCode e)) (is s' s) (agrees j' j) h (row-none rs e s j q)
+row-none (row e' s' j' up down timer next ∷ rs) e s j q h = go (eqb (event_code e') (event_code e)) (is s' s) (agrees j' j) h (row-none rs e s j q)
   where
     go : (x y z : Bool) → ((x && y) || filled rs e s) ≡ false → (filled rs e s ≡ false → row_in rs e s j q ≡ q)
-        → cond (x && (y && z)) (squareOf up down timer (to next)) (row_in rs e s j q) ≡ q
+        → cond (x && (y && z)) (square_of up down timer (to next)) (row_in rs e s j q) ≡ q
     go true true z f r = clash false (sym f) refl
     go true false z f r = r f
     go false y z f r = r f

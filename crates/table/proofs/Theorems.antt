@@ -6,31 +6,31 @@ use mathlib.Core.List.{List}
 use Prim.Native.Nat.{ℕ}
 use Rattle.refusal.proofs.Laws.{one_each, named, named_back}
 use Rattle.authentication.specs.Unit.{message, unit_of}
-use Rattle.units.specs.Units.{au3Unit, arUnit}
+use Rattle.units.specs.Units.{au3_unit, ar_unit}
 use Rattle.table.specs.declared.Stepped.{Stepped}
 use Rattle.table.specs.declared.Stepped.TheVariants as stepped
 use Rattle.table.specs.declared.Kind.TheVariants.{Dt}
-use Rattle.table.specs.Steps.{kind_of, Answered, done, refused, steppedAs}
+use Rattle.table.specs.Steps.{kind_of, Answered, done, refused, stepped_as}
 use Rattle.table.specs.Claims.{KindOf, TableFollowed, OneAnswer}
 use Rattle.table.proofs.EndLaws.{step_follows}
 use Rattle.table.proofs.PickLaws.{picked}
-pub use Rattle.table.proofs.JudgeLaws.{predicates-judge}
+pub use Rattle.table.proofs.JudgeLaws.{predicates_judge}
 pub use Rattle.table.proofs.TableLaws.{rows-found}
-pub use Rattle.table.proofs.SquareLaws.{counted-as, blanks-followed, expiry-closes-nothing}
-pub use Rattle.table.proofs.DataLaws.{data-only-checked}
-pub use Rattle.table.proofs.RefusalLaws.{refused-first, search-refuses, refusal-leaves}
-pub use Rattle.table.proofs.KeyLaws.{only-macs-show-keys}
+pub use Rattle.table.proofs.SquareLaws.{counted_as, blanks-followed, expiry_closes_nothing}
+pub use Rattle.table.proofs.DataLaws.{data_only_checked}
+pub use Rattle.table.proofs.RefusalLaws.{refused-first, search-refuses, refusal_leaves}
+pub use Rattle.table.proofs.KeyLaws.{only_macs_show_keys}
 
 -- ---- the kind of a unit
 
-data-kind : (key destination : List ℕ) (direction : Bool) (sent : List ℕ) → kind_of (unit_of key destination direction sent) ≡ Dt
+data_kind : (key destination : List ℕ) (direction : Bool) (sent : List ℕ) → kind_of (unit_of key destination direction sent) ≡ Dt
 unfolding unit_of message
-data-kind key destination true sent = refl
-data-kind key destination false sent = refl
+data_kind key destination true sent = refl
+data_kind key destination false sent = refl
 
-pub kind-of : KindOf
-unfolding au3Unit arUnit
-kind-of = record { au3 = λ key responder ra rb. refl; ar = λ key caller. refl; dt = data-kind }
+pub kind_of_lem : KindOf
+unfolding au3_unit ar_unit
+kind_of_lem = record { au3 = λ key responder ra rb. refl; ar = λ key caller. refl; dt = data_kind }
 
 -- ---- the table
 
@@ -43,10 +43,10 @@ meant : Answered → Stepped
 meant (done a) = stepped.Done a
 meant (refused n) = stepped.Refused (named n)
 
-meant-back : (r : Stepped) → meant (steppedAs r) ≡ r
+meant-back : (r : Stepped) → meant (stepped_as r) ≡ r
 unfolding meant
 meant-back (stepped.Done a) = refl
 meant-back (stepped.Refused h) = ap stepped.Refused (named_back h)
 
 pub one_answer : OneAnswer
-one_answer = record { of-step = one_each steppedAs meant meant-back }
+one_answer = record { of_step = one_each stepped_as meant meant-back }

@@ -46,8 +46,8 @@ pub record Square : Type 0 where
   pub timer : Timer
   pub next : Next
 
-abbrev pub squareOf : Up → ToTransport → Timer → Next → Square
-squareOf up down timer next = record { up = up; down = down; timer = timer; next = next }
+abbrev pub square_of : Up → ToTransport → Timer → Next → Square
+square_of up down timer next = record { up = up; down = down; timer = timer; next = next }
 
 -- ---- Table 20
 
@@ -87,33 +87,33 @@ table =
 
 -- ---- finding a square
 
-abbrev pub stateCode : State → ℕ
-stateCode IDLE = 0
-stateCode WFTC = 1
-stateCode WFAR = 2
-stateCode DATA = 3
-stateCode WFAU3 = 4
-stateCode WFRESP = 5
+abbrev pub state_code : State → ℕ
+state_code IDLE = 0
+state_code WFTC = 1
+state_code WFAR = 2
+state_code DATA = 3
+state_code WFAU3 = 4
+state_code WFRESP = 5
 
 -- a connection with any other code is idle
 abbrev pub state_of : ℕ → State
 state_of n = cond (eqb n 1) WFTC (cond (eqb n 2) WFAR (cond (eqb n 3) DATA (cond (eqb n 4) WFAU3 (cond (eqb n 5) WFRESP IDLE))))
 
 abbrev pub is : State → State → Bool
-is s s' = eqb (stateCode s) (stateCode s')
+is s s' = eqb (state_code s) (state_code s')
 
-abbrev pub eventCode : Event → ℕ
-eventCode SaConnReq = 0
-eventCode SaConnResp = 1
-eventCode SaDataReq = 2
-eventCode SaDiscReq = 3
-eventCode TConnInd = 4
-eventCode TConnConf = 5
-eventCode TDiscInd = 6
-eventCode AU3 = 7
-eventCode AR = 8
-eventCode DT = 9
-eventCode TimeOut = 10
+abbrev pub event_code : Event → ℕ
+event_code SaConnReq = 0
+event_code SaConnResp = 1
+event_code SaDataReq = 2
+event_code SaDiscReq = 3
+event_code TConnInd = 4
+event_code TConnConf = 5
+event_code TDiscInd = 6
+event_code AU3 = 7
+event_code AR = 8
+event_code DT = 9
+event_code TimeOut = 10
 
 abbrev pub agrees : Judged → Judged → Bool
 agrees ok ok = true
@@ -125,47 +125,47 @@ agrees (pre m) (pre n) = eqb m n
 unfoldable pub row_in : List Row → Event → State → Judged → Square → Square
 row_in [] e s j blank = blank
 row_in (row e' s' j' up down timer next ∷ rs) e s j blank =
-    cond (eqb (eventCode e') (eventCode e) && (is s' s && agrees j' j))
-    (squareOf up down timer (to next))
+    cond (eqb (event_code e') (event_code e) && (is s' s && agrees j' j))
+    (square_of up down timer (to next))
     (row_in rs e s j blank)
 
 -- the table has a row of this event and state
 unfoldable pub filled : List Row → Event → State → Bool
 filled [] e s = false
-filled (row e' s' j' up down timer next ∷ rs) e s = (eqb (eventCode e') (eventCode e) && is s' s) || filled rs e s
+filled (row e' s' j' up down timer next ∷ rs) e s = (eqb (event_code e') (event_code e) && is s' s) || filled rs e s
 
 -- and one of this predicate too
 unfoldable pub has_row : List Row → Event → State → Judged → Bool
 has_row [] e s j = false
-has_row (row e' s' j' up down timer next ∷ rs) e s j = (eqb (eventCode e') (eventCode e) && (is s' s && agrees j' j)) || has_row rs e s j
+has_row (row e' s' j' up down timer next ∷ rs) e s j = (eqb (event_code e') (event_code e) && (is s' s && agrees j' j)) || has_row rs e s j
 
 -- ---- blank squares (6.2.6.3.2)
 
-abbrev pub noAction : Square
-noAction = squareOf no Quiet Keep stays
+abbrev pub no_action : Square
+no_action = square_of no Quiet Keep stays
 
 -- the treatment of protocol errors: what the state's own rows do with a unit that is not acceptable (6.3.3.5.2, Tables 27 and 31); without a transport connection, nothing
-abbrev pub protocolError : State → Square
-protocolError IDLE = noAction
-protocolError WFTC = squareOf SaDiscInd TDiscReq a19 (to IDLE)
-protocolError WFAR = squareOf SaDiscInd TDiscReqDi a19 (to IDLE)
-protocolError DATA = squareOf SaDiscInd TDiscReqDi a19 (to IDLE)
-protocolError WFAU3 = squareOf no TDiscReqDi a19 (to IDLE)
-protocolError WFRESP = squareOf SaDiscInd TDiscReqDi a19 (to IDLE)
+abbrev pub protocol_error : State → Square
+protocol_error IDLE = no_action
+protocol_error WFTC = square_of SaDiscInd TDiscReq a19 (to IDLE)
+protocol_error WFAR = square_of SaDiscInd TDiscReqDi a19 (to IDLE)
+protocol_error DATA = square_of SaDiscInd TDiscReqDi a19 (to IDLE)
+protocol_error WFAU3 = square_of no TDiscReqDi a19 (to IDLE)
+protocol_error WFRESP = square_of SaDiscInd TDiscReqDi a19 (to IDLE)
 
 -- an event related to a received SaPDU is a protocol error; any other is no action
 abbrev pub blank : Event → State → Square
-blank SaConnReq s = noAction
-blank SaConnResp s = noAction
-blank SaDataReq s = noAction
-blank SaDiscReq s = noAction
-blank TConnInd s = noAction
-blank TConnConf s = noAction
-blank TDiscInd s = noAction
-blank AU3 s = protocolError s
-blank AR s = protocolError s
-blank DT s = protocolError s
-blank TimeOut s = noAction
+blank SaConnReq s = no_action
+blank SaConnResp s = no_action
+blank SaDataReq s = no_action
+blank SaDiscReq s = no_action
+blank TConnInd s = no_action
+blank TConnConf s = no_action
+blank TDiscInd s = no_action
+blank AU3 s = protocol_error s
+blank AR s = protocol_error s
+blank DT s = protocol_error s
+blank TimeOut s = no_action
 
 unfoldable pub square : Event → State → Judged → Square
 square e s j = row_in table e s j (blank e s)

@@ -1,7 +1,7 @@
 // What a step hands back: the outgoing events and the connection, or a refusal.
 ghost use Rattle.std.specs.Prelude.{◌≡◌, ◌≤◌, length};
 ghost use Rattle.octets.specs.Bytes.{splice};
-ghost use Rattle.units.specs.Units.{diUnit};
+ghost use Rattle.units.specs.Units.{di_unit};
 ghost use Rattle.table.specs.Steps.{idle, acts};
 
 use crate::{Actions, Connection, Step, Stepped, Timer, ToTransport, ToUser};
@@ -64,7 +64,7 @@ pub fn rejected(
     out: &mut [u8],
 ) -> Step
     requires { 1032 ≤ length out.old }
-    ensures { (result.answer ≡ Stepped.Done (acts user ToTransport.TDiscReqDi timer 3)) × (result.connection ≡ idle) × (out.new ≡ splice out.old 0 (diUnit responder reason sub)) }
+    ensures { (result.answer ≡ Stepped.Done (acts user ToTransport.TDiscReqDi timer 3)) × (result.connection ≡ idle) × (out.new ≡ splice out.old 0 (di_unit responder reason sub)) }
 {
     units::put_di(out, responder, reason, sub);
     acting(
@@ -79,7 +79,7 @@ pub fn rejected(
 // The same with a19.
 pub fn ended_by_di(c: Connection, user: ToUser, reason: u8, sub: u8, out: &mut [u8]) -> Step
     requires { 1032 ≤ length out.old }
-    ensures { (result.answer ≡ Stepped.Done (acts user ToTransport.TDiscReqDi Timer.StopAll 3)) × (result.connection ≡ idle) × (out.new ≡ splice out.old 0 (diUnit c.responder reason sub)) }
+    ensures { (result.answer ≡ Stepped.Done (acts user ToTransport.TDiscReqDi Timer.StopAll 3)) × (result.connection ≡ idle) × (out.new ≡ splice out.old 0 (di_unit c.responder reason sub)) }
 {
     rejected(c.responder, user, Timer::StopAll, reason, sub, out)
 }
@@ -87,7 +87,7 @@ pub fn ended_by_di(c: Connection, user: ToUser, reason: u8, sub: u8, out: &mut [
 // And with Sa-DISC.ind of the same reason.
 pub fn broken(c: Connection, reason: u8, sub: u8, out: &mut [u8]) -> Step
     requires { 1032 ≤ length out.old }
-    ensures { (result.answer ≡ Stepped.Done (acts (ToUser.DisconnectIndication reason sub) ToTransport.TDiscReqDi Timer.StopAll 3)) × (result.connection ≡ idle) × (out.new ≡ splice out.old 0 (diUnit c.responder reason sub)) }
+    ensures { (result.answer ≡ Stepped.Done (acts (ToUser.DisconnectIndication reason sub) ToTransport.TDiscReqDi Timer.StopAll 3)) × (result.connection ≡ idle) × (out.new ≡ splice out.old 0 (di_unit c.responder reason sub)) }
 {
     ended_by_di(
         c,

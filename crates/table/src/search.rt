@@ -1,9 +1,9 @@
 // The search where the table starts set-up: store's own, and H11 for an identity type over 7.
 ghost use Rattle.std.specs.Prelude.{◌≡◌, ◌&&◌, ◌-◌, leb};
 ghost use Rattle.units.specs.Units.{type_of};
-ghost use Rattle.store.specs.Store.{HasPlace, kmacAt};
+ghost use Rattle.store.specs.Store.{HasPlace, kmac_at};
 ghost use Rattle.table.specs.Steps.{found};
-ghost use Rattle.table.specs.Parts.{searchedAs};
+ghost use Rattle.table.specs.Parts.{searched_as};
 
 use refusal::Refusal;
 use store::{Found, KMAC};
@@ -30,7 +30,7 @@ fn are_types(own: u32, peer: u32) -> bool
 }
 
 pub fn search(store: &[u8], own: u32, peer: u32, t: u32) -> Searched
-    ensures { searchedAs result ≡ found store.now own peer t }
+    ensures { searched_as result ≡ found store.now own peer t }
 {
     match store::find(store, peer, t) {
         Found::At(place, _) => {
@@ -46,7 +46,7 @@ pub fn search(store: &[u8], own: u32, peer: u32, t: u32) -> Searched
 // The KMAC at the place that was found: read there, since a second search would test the whole store again.
 pub fn kmac(store: &[u8], place: usize) -> [u8; 24]
     requires { HasPlace store.now place }
-    ensures { result ≡ kmacAt store.now (place - 1) }
+    ensures { result ≡ kmac_at store.now (place - 1) }
 {
     let mut r = [0u8; KMAC];
     octets::copy(&mut r, 0, store::kmac_at(store, place), 0, KMAC);

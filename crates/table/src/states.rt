@@ -1,7 +1,7 @@
 // The state of a connection.
 ghost use Rattle.std.specs.Prelude.{◌≡◌};
 ghost use Rattle.table.specs.Table.{state_of};
-ghost use Rattle.table.specs.Steps.{withState};
+ghost use Rattle.table.specs.Steps.{with_state};
 
 use crate::{Connection, State};
 
@@ -28,7 +28,7 @@ pub fn state_of(code: u8) -> State
 
 // The connection in another state.
 pub fn entering(mut c: Connection, code: u8) -> Connection
-    ensures { result ≡ withState c code }
+    ensures { result ≡ with_state c code }
 {
     c.state = code;
     c

@@ -10,35 +10,35 @@ use lib.Seq.{take_all}
 use borrow.Author.Tests.{eqb-true}
 use Rattle.octets.specs.Bytes.{Bytes, part, same}
 use Rattle.octets.proofs.BoolLaws.{same_true}
-use Rattle.authentication.specs.Unit.{firstByte}
+use Rattle.authentication.specs.Unit.{first_byte}
 use Rattle.units.specs.declared.Fault.TheVariants.{Fine}
-use Rattle.units.specs.Units.{type_of, etcsId, senderOf, ety, mti, df, saf, random, au1Unit, au2Text, au2Mac, au2Unit, au3Mac, au3Unit, arMac, arUnit, Test, test, firstFault, au1Fault, au2Fault, au2Fields, au3Fault, arFault}
+use Rattle.units.specs.Units.{type_of, etcs_id, sender_of, ety, mti, df, saf, random, au1_unit, au2_text, au2_mac, au2_unit, au3_mac, au3_unit, ar_mac, ar_unit, Test, test, first_fault, au1_fault, au2_fault, au2_fields, au3_fault, ar_fault}
 use Rattle.units.proofs.HeaderLaws.{first_of}
 
 -- where no test fails, the first holds and none of the others fails
-held : (b : Bool) (reason sub : ℕ) (ts : List Test) → firstFault (test b reason sub ∷ ts) ≡ Fine → (b ≡ true) × (firstFault ts ≡ Fine)
-unfolding firstFault
+held : (b : Bool) (reason sub : ℕ) (ts : List Test) → first_fault (test b reason sub ∷ ts) ≡ Fine → (b ≡ true) × (first_fault ts ≡ Fine)
+unfolding first_fault
 held true reason sub ts e = (refl, e)
 held false reason sub ts e = let z : ◌≡◌ {A = ℕ} 0 1 = cc in absurd (omega arith)
 
 -- the length of a unit that passed: what `sender_of`, `random_of` and `au2_seal` ask
-pub au1-long : (unit : List ℕ) → au1Fault unit ≡ Fine → length unit ≡ 13
-unfolding au1Fault
+pub au1-long : (unit : List ℕ) → au1_fault unit ≡ Fine → length unit ≡ 13
+unfolding au1_fault
 au1-long unit e = eqb-true (length unit) 13 (held _ _ _ _ e).0
 
-pub au2-long : (peer : ℕ) (unit : List ℕ) → au2Fields peer unit ≡ Fine → length unit ≡ 21
-unfolding au2Fields
+pub au2-long : (peer : ℕ) (unit : List ℕ) → au2_fields peer unit ≡ Fine → length unit ≡ 21
+unfolding au2_fields
 au2-long peer unit e = eqb-true (length unit) 21 (held _ _ _ _ e).0
 
 -- ---- the sender
 
 -- the bytes of an identity that was read from a unit
 module _ (x b c d v : ℕ) (p : b < 256) (q : c < 256) (r : d < 256) (e : x * 16777216 + (b * 65536 + (c * 256 + d)) ≡ v) where
-  its-type : type_of v ≡ x
-  its-type = omega arith
+  its_type : type_of v ≡ x
+  its_type = omega arith
 
-  its-bytes : etcsId v ≡ b ∷ c ∷ d ∷ []
-  its-bytes =
+  its_bytes : etcs_id v ≡ b ∷ c ∷ d ∷ []
+  its_bytes =
       let h : v / 65536 ≡ x * 256 + b = omega arith in
       let i : v / 256 ≡ (x * 256 + b) * 256 + c = omega arith in
       let j : v ≡ ((x * 256 + b) * 256 + c) * 256 + d = omega arith in
@@ -56,28 +56,28 @@ five (a ∷ b ∷ c ∷ d ∷ []) h = absurd (omega arith)
 five (a ∷ b ∷ c ∷ d ∷ e ∷ u) h = refl
 
 module _ (unit : List ℕ) (byte : Bytes unit) where
-  pub sender-type : type_of (senderOf unit) ≤ 7
-  sender-type =
-      let t : type_of (senderOf unit) ≡ ety unit = its-type (ety unit) (get_or unit 1 0) (get_or unit 2 0) (get_or unit 3 0) (senderOf unit) (byte 1) (byte 2) (byte 3) refl in
+  pub sender_type : type_of (sender_of unit) ≤ 7
+  sender_type =
+      let t : type_of (sender_of unit) ≡ ety unit = its_type (ety unit) (get_or unit 1 0) (get_or unit 2 0) (get_or unit 3 0) (sender_of unit) (byte 1) (byte 2) (byte 3) refl in
       omega (arith, t, byte 0)
 
   -- the 13 bytes before a MAC, of which the fields are known
   text_of : (m f : ℕ) → 13 ≤ length unit → mti unit ≡ m → df unit ≡ f → saf unit ≡ 1
-      → take 13 unit ≡ firstByte (type_of (senderOf unit)) m f ∷ etcsId (senderOf unit) ++ (1 ∷ random unit)
+      → take 13 unit ≡ first_byte (type_of (sender_of unit)) m f ∷ etcs_id (sender_of unit) ++ (1 ∷ random unit)
   unfolding part
   text_of m f l p q s =
-      let v = senderOf unit in
-      let t : type_of v ≡ ety unit = its-type (ety unit) (get_or unit 1 0) (get_or unit 2 0) (get_or unit 3 0) v (byte 1) (byte 2) (byte 3) refl in
-      let i : etcsId v ≡ get_or unit 1 0 ∷ get_or unit 2 0 ∷ get_or unit 3 0 ∷ [] = its-bytes (ety unit) (get_or unit 1 0) (get_or unit 2 0) (get_or unit 3 0) v (byte 1) (byte 2) (byte 3) refl in
-      let h : get_or unit 0 0 ≡ firstByte (type_of v) m f = first_of (get_or unit 0 0) (type_of v) m f (sym t) p q in
+      let v = sender_of unit in
+      let t : type_of v ≡ ety unit = its_type (ety unit) (get_or unit 1 0) (get_or unit 2 0) (get_or unit 3 0) v (byte 1) (byte 2) (byte 3) refl in
+      let i : etcs_id v ≡ get_or unit 1 0 ∷ get_or unit 2 0 ∷ get_or unit 3 0 ∷ [] = its_bytes (ety unit) (get_or unit 1 0) (get_or unit 2 0) (get_or unit 3 0) v (byte 1) (byte 2) (byte 3) refl in
+      let h : get_or unit 0 0 ≡ first_byte (type_of v) m f = first_of (get_or unit 0 0) (type_of v) m f (sym t) p q in
       ap (take 13) (five unit (omega arith))
       ∙ ap₂ (λ (a b : ℕ). a ∷ (get_or unit 1 0 ∷ get_or unit 2 0 ∷ get_or unit 3 0 ∷ []) ++ (b ∷ take 8 (drop 5 unit))) h s
-      ∙ ap (λ (a : List ℕ). firstByte (type_of v) m f ∷ a ++ (1 ∷ take 8 (drop 5 unit))) (sym i)
+      ∙ ap (λ (a : List ℕ). first_byte (type_of v) m f ∷ a ++ (1 ∷ take 8 (drop 5 unit))) (sym i)
 
 -- ---- AU1 and AU2
 
-pub au1-built : (unit : List ℕ) → Bytes unit → au1Fault unit ≡ Fine → unit ≡ au1Unit (senderOf unit) (random unit)
-unfolding au1Fault au1Unit
+pub au1-built : (unit : List ℕ) → Bytes unit → au1_fault unit ≡ Fine → unit ≡ au1_unit (sender_of unit) (random unit)
+unfolding au1_fault au1_unit
 au1-built unit byte e =
     let p = held _ _ _ _ e in
     let q = held _ _ _ _ p.1 in
@@ -86,8 +86,8 @@ au1-built unit byte e =
     let l : length unit ≡ 13 = eqb-true (length unit) 13 p.0 in
     sym (take_all 13 unit (omega arith)) ∙ text_of unit byte 1 0 (omega arith) (eqb-true (mti unit) 1 q.0) (eqb-true (df unit) 0 r.0) (eqb-true (saf unit) 1 s.0)
 
-pub au2-built : (key : List ℕ) (own peer : ℕ) (rb unit : List ℕ) → Bytes unit → au2Fault key own peer rb unit ≡ Fine → unit ≡ au2Unit key peer own (random unit) rb
-unfolding au2Fault au2Unit au2Text
+pub au2-built : (key : List ℕ) (own peer : ℕ) (rb unit : List ℕ) → Bytes unit → au2_fault key own peer rb unit ≡ Fine → unit ≡ au2_unit key peer own (random unit) rb
+unfolding au2_fault au2_unit au2_text
 au2-built key own peer rb unit byte e =
     let p = held _ _ _ _ e in
     let q = held _ _ _ _ p.1 in
@@ -96,12 +96,12 @@ au2-built key own peer rb unit byte e =
     let t = held _ _ _ _ s.1 in
     let u = held _ _ _ _ t.1 in
     let l : length unit ≡ 21 = eqb-true (length unit) 21 p.0 in
-    let f : senderOf unit ≡ peer = eqb-true (senderOf unit) peer r.0 in
-    let x : take 13 unit ≡ au2Text peer (random unit) =
-    text_of unit byte 2 1 (omega arith) (eqb-true (mti unit) 2 q.0) (eqb-true (df unit) 1 u.0) (eqb-true (saf unit) 1 s.0) ∙ ap (λ (v : ℕ). au2Text v (random unit)) f in
+    let f : sender_of unit ≡ peer = eqb-true (sender_of unit) peer r.0 in
+    let x : take 13 unit ≡ au2_text peer (random unit) =
+    text_of unit byte 2 1 (omega arith) (eqb-true (mti unit) 2 q.0) (eqb-true (df unit) 1 u.0) (eqb-true (saf unit) 1 s.0) ∙ ap (λ (v : ℕ). au2_text v (random unit)) f in
     sym (take-append-drop 13 unit)
-    ∙ ap (λ (d : List ℕ). take 13 unit ++ d) (sym (same_true (au2Mac key own rb (take 13 unit)) (drop 13 unit) t.0))
-    ∙ ap (λ (y : List ℕ). y ++ au2Mac key own rb y) x
+    ∙ ap (λ (d : List ℕ). take 13 unit ++ d) (sym (same_true (au2_mac key own rb (take 13 unit)) (drop 13 unit) t.0))
+    ∙ ap (λ (y : List ℕ). y ++ au2_mac key own rb y) x
 
 -- ---- AU3 and AR
 
@@ -111,12 +111,12 @@ apart (x ∷ xs) h = refl
 
 -- a first byte and the MAC that follows from it
 sealed : (unit : List ℕ) (made : ℕ → List ℕ) (t m f : ℕ) → 1 ≤ length unit → same (made (get_or unit 0 0)) (drop 1 unit) ≡ true → ety unit ≡ t → mti unit ≡ m → df unit ≡ f
-    → unit ≡ firstByte t m f ∷ made (firstByte t m f)
+    → unit ≡ first_byte t m f ∷ made (first_byte t m f)
 sealed unit made t m f l e p q r =
     apart unit l ∙ ap (λ (d : List ℕ). get_or unit 0 0 ∷ d) (sym (same_true (made (get_or unit 0 0)) (drop 1 unit) e)) ∙ ap (λ (x : ℕ). x ∷ made x) (first_of (get_or unit 0 0) t m f p q r)
 
-pub au3-built : (key : List ℕ) (own : ℕ) (ra rb unit : List ℕ) → au3Fault key own ra rb unit ≡ Fine → unit ≡ au3Unit key own ra rb
-unfolding au3Fault au3Unit
+pub au3-built : (key : List ℕ) (own : ℕ) (ra rb unit : List ℕ) → au3_fault key own ra rb unit ≡ Fine → unit ≡ au3_unit key own ra rb
+unfolding au3_fault au3_unit
 au3-built key own ra rb unit e =
     let p = held _ _ _ _ e in
     let q = held _ _ _ _ p.1 in
@@ -124,10 +124,10 @@ au3-built key own ra rb unit e =
     let s = held _ _ _ _ r.1 in
     let t = held _ _ _ _ s.1 in
     let l : length unit ≡ 9 = eqb-true (length unit) 9 p.0 in
-    sealed unit (au3Mac key own ra rb) 0 3 0 (omega arith) q.0 (eqb-true (ety unit) 0 s.0) (eqb-true (mti unit) 3 r.0) (eqb-true (df unit) 0 t.0)
+    sealed unit (au3_mac key own ra rb) 0 3 0 (omega arith) q.0 (eqb-true (ety unit) 0 s.0) (eqb-true (mti unit) 3 r.0) (eqb-true (df unit) 0 t.0)
 
-pub ar-built : (key : List ℕ) (own : ℕ) (unit : List ℕ) → arFault key own unit ≡ Fine → unit ≡ arUnit key own
-unfolding arFault arUnit
+pub ar-built : (key : List ℕ) (own : ℕ) (unit : List ℕ) → ar_fault key own unit ≡ Fine → unit ≡ ar_unit key own
+unfolding ar_fault ar_unit
 ar-built key own unit e =
     let p = held _ _ _ _ e in
     let q = held _ _ _ _ p.1 in
@@ -135,4 +135,4 @@ ar-built key own unit e =
     let s = held _ _ _ _ r.1 in
     let t = held _ _ _ _ s.1 in
     let l : length unit ≡ 9 = eqb-true (length unit) 9 p.0 in
-    sealed unit (arMac key own) 0 9 1 (omega arith) q.0 (eqb-true (ety unit) 0 s.0) (eqb-true (mti unit) 9 r.0) (eqb-true (df unit) 1 t.0)
+    sealed unit (ar_mac key own) 0 9 1 (omega arith) q.0 (eqb-true (ety unit) 0 s.0) (eqb-true (mti unit) 9 r.0) (eqb-true (df unit) 1 t.0)

@@ -8,12 +8,12 @@ use lib.Bits.{bit_or, or_shifted}
 use lib.ListN.{get_or}
 use Rattle.octets.specs.Bytes.{Bytes, get32}
 use Rattle.octets.proofs.WordLaws.{get32-be32}
-use Rattle.authentication.specs.Unit.{firstByte}
-use Rattle.units.specs.Units.{type_of, senderOf}
+use Rattle.authentication.specs.Unit.{first_byte}
+use Rattle.units.specs.Units.{type_of, sender_of}
 
 -- ---- the first byte
 
-pub first-joined : (ety mti df : ℕ) → ety < 8 → mti < 16 → df < 2 → bit_or (bit_or (ety * 32 % 256) (mti * 2 % 256)) df ≡ firstByte ety mti df
+pub first-joined : (ety mti df : ℕ) → ety < 8 → mti < 16 → df < 2 → bit_or (bit_or (ety * 32 % 256) (mti * 2 % 256)) df ≡ first_byte ety mti df
 first-joined ety mti df p q r =
     let e : ety * 32 % 256 ≡ ety * 32 = omega arith in
     let m : mti * 2 % 256 ≡ mti * 2 = omega arith in
@@ -24,17 +24,17 @@ first-joined ety mti df p q r =
 
 -- and taken apart
 module _ (t m f : ℕ) (p : t ≤ 7) (q : m < 16) (r : f < 2) where
-  pub first-ety : firstByte t m f / 32 ≡ t
+  pub first-ety : first_byte t m f / 32 ≡ t
   first-ety = omega arith
 
-  pub first-mti : firstByte t m f / 2 % 16 ≡ m
+  pub first-mti : first_byte t m f / 2 % 16 ≡ m
   first-mti = omega arith
 
-  pub first-df : firstByte t m f % 2 ≡ f
+  pub first-df : first_byte t m f % 2 ≡ f
   first-df = omega arith
 
 -- a byte of which ETY, MTI and flag are known
-pub first_of : (b t m f : ℕ) → b / 32 ≡ t → b / 2 % 16 ≡ m → b % 2 ≡ f → b ≡ firstByte t m f
+pub first_of : (b t m f : ℕ) → b / 32 ≡ t → b / 2 % 16 ≡ m → b % 2 ≡ f → b ≡ first_byte t m f
 first_of b t m f p q r = omega arith
 
 -- ---- the sender
@@ -42,7 +42,7 @@ first_of b t m f p q r = omega arith
 low-bytes : (a b c d : ℕ) → b < 256 → c < 256 → d < 256 → (a * 16777216 + b * 65536 + c * 256 + d) % 16777216 ≡ b * 65536 + (c * 256 + d)
 low-bytes a b c d p q r = omega arith
 
-pub sender-joined : (unit : List ℕ) (ety word : ℕ) → Bytes unit → ety ≡ get_or unit 0 0 / 32 → word ≡ get32 unit 0 → ety * 16777216 + word % 16777216 ≡ senderOf unit
+pub sender-joined : (unit : List ℕ) (ety word : ℕ) → Bytes unit → ety ≡ get_or unit 0 0 / 32 → word ≡ get32 unit 0 → ety * 16777216 + word % 16777216 ≡ sender_of unit
 sender-joined unit ety word b e w =
     ap₂ (λ (x y : ℕ). x * 16777216 + y % 16777216) e w
     ∙ ap (λ (n : ℕ). get_or unit 0 0 / 32 * 16777216 + n) (low-bytes (get_or unit 0 0) (get_or unit 1 0) (get_or unit 2 0) (get_or unit 3 0) (b 1) (b 2) (b 3))
@@ -56,6 +56,6 @@ identity v p =
     omega (arith, b, c)
 
 -- ETY and SA of an AU1 or AU2 of an identity
-pub sent-by : (own m f : ℕ) → type_of own ≤ 7 → m < 16 → f < 2 → firstByte (type_of own) m f / 32 * 16777216 + (own / 65536 % 256 * 65536 + (own / 256 % 256 * 256 + own % 256)) ≡ own
+pub sent-by : (own m f : ℕ) → type_of own ≤ 7 → m < 16 → f < 2 → first_byte (type_of own) m f / 32 * 16777216 + (own / 65536 % 256 * 65536 + (own / 256 % 256 * 256 + own % 256)) ≡ own
 sent-by own m f t q r =
     ap (λ (x : ℕ). x * 16777216 + (own / 65536 % 256 * 65536 + (own / 256 % 256 * 256 + own % 256))) (first-ety (type_of own) m f t q r) ∙ identity own t

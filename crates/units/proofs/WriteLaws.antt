@@ -10,9 +10,9 @@ use Rattle.octets.specs.Bytes.{part, splice}
 use Rattle.octets.proofs.PartLaws.{part_length, part-whole}
 use Rattle.octets.proofs.SpliceLaws.{set-splice, splice-splice, splice_all, splice_front}
 use Rattle.authentication.specs.Mac.{mac}
-use Rattle.authentication.specs.Unit.{flag, firstByte}
+use Rattle.authentication.specs.Unit.{flag, first_byte}
 use Rattle.authentication.proofs.MacLaws.{length-mac}
-use Rattle.units.specs.Units.{type_of, etcsId, au1Unit, au2Text, au2Mac, au2Unit, au3Mac, au3Unit, arMac, arUnit, diUnit}
+use Rattle.units.specs.Units.{type_of, etcs_id, au1_unit, au2_text, au2_mac, au2_unit, au3_mac, au3_unit, ar_mac, ar_unit, di_unit}
 
 -- ---- parts one behind the other
 
@@ -29,8 +29,8 @@ behind-first d t w x n q lw h = behind d (set d 0 x) t (x ∷ []) w 1 n (set-spl
 
 -- ---- the strings of the MACs
 
-pub au2-string : (text rb id m1 m2 m3 : List ℕ) (caller : ℕ) → length text ≡ 13 → length rb ≡ 8 → id ≡ etcsId caller → m1 ≡ splice (replicate 24 0) 0 (part text 0 13)
-    → m2 ≡ splice m1 13 (part rb 0 8) → m3 ≡ splice m2 21 (part id 0 3) → m3 ≡ text ++ (rb ++ etcsId caller)
+pub au2-string : (text rb id m1 m2 m3 : List ℕ) (caller : ℕ) → length text ≡ 13 → length rb ≡ 8 → id ≡ etcs_id caller → m1 ≡ splice (replicate 24 0) 0 (part text 0 13)
+    → m2 ≡ splice m1 13 (part rb 0 8) → m3 ≡ splice m2 21 (part id 0 3) → m3 ≡ text ++ (rb ++ etcs_id caller)
 au2-string text rb id m1 m2 m3 caller lt lr e e1 e2 e3 =
     let z : List ℕ = replicate 24 0 in
     let li : length id ≡ 3 = ap length e in
@@ -56,53 +56,53 @@ au3-string ra rb m1 m2 first la lb e1 e2 =
 pub random-read : (unit r : List ℕ) → 13 ≤ length unit → r ≡ splice (replicate 8 0) 0 (part unit 5 8) → r ≡ part unit 5 8
 random-read unit r h e = e ∙ splice_all (replicate 8 0) (part unit 5 8) (length-replicate {A = ℕ} 8 0 ∙ sym (part_length unit 5 8 h))
 
-pub text-put : (d s t id random : List ℕ) (first own : ℕ) → 13 ≤ length d → length random ≡ 8 → id ≡ etcsId own
+pub text-put : (d s t id random : List ℕ) (first own : ℕ) → 13 ≤ length d → length random ≡ 8 → id ≡ etcs_id own
     → s ≡ splice d 0 (part (first ∷ get_or id 0 0 ∷ get_or id 1 0 ∷ get_or id 2 0 ∷ 1 ∷ []) 0 5) → t ≡ splice s 5 (part random 0 8)
-    → t ≡ splice d 0 (first ∷ etcsId own ++ (1 ∷ random))
+    → t ≡ splice d 0 (first ∷ etcs_id own ++ (1 ∷ random))
 unfolding part
 text-put d s t id random first own h l e p q =
     let v = first ∷ get_or id 0 0 ∷ get_or id 1 0 ∷ get_or id 2 0 ∷ 1 ∷ [] in
     behind d s t v random 5 8 p refl q l h ∙ ap (λ (i : List ℕ). splice d 0 (first ∷ get_or i 0 0 ∷ get_or i 1 0 ∷ get_or i 2 0 ∷ 1 ∷ random)) e
 
-pub sealed-put : (d t made key id m : List ℕ) (first destination : ℕ) → 9 ≤ length d → id ≡ etcsId destination → made ≡ mac key id m → t ≡ splice (set d 0 first) 1 (part made 0 8)
-    → t ≡ splice d 0 (first ∷ mac key (etcsId destination) m)
+pub sealed-put : (d t made key id m : List ℕ) (first destination : ℕ) → 9 ≤ length d → id ≡ etcs_id destination → made ≡ mac key id m → t ≡ splice (set d 0 first) 1 (part made 0 8)
+    → t ≡ splice d 0 (first ∷ mac key (etcs_id destination) m)
 sealed-put d t made key id m first destination h e f q =
     behind-first d t made first 8 q (ap length f ∙ length-mac key id m) h ∙ ap (λ (x : List ℕ). splice d 0 (first ∷ x)) (f ∙ ap (λ (i : List ℕ). mac key i m) e)
 
-pub au1-put : (d t rb : List ℕ) (own ety first : ℕ) → ety ≡ type_of own → first ≡ firstByte ety 1 0 → t ≡ splice d 0 (first ∷ etcsId own ++ (1 ∷ rb))
-    → t ≡ splice d 0 (au1Unit own rb)
-unfolding au1Unit
-au1-put d t rb own ety first e f q = q ∙ ap (λ (x : ℕ). splice d 0 (x ∷ etcsId own ++ (1 ∷ rb))) (f ∙ ap (λ (y : ℕ). firstByte y 1 0) e)
+pub au1-put : (d t rb : List ℕ) (own ety first : ℕ) → ety ≡ type_of own → first ≡ first_byte ety 1 0 → t ≡ splice d 0 (first ∷ etcs_id own ++ (1 ∷ rb))
+    → t ≡ splice d 0 (au1_unit own rb)
+unfolding au1_unit
+au1-put d t rb own ety first e f q = q ∙ ap (λ (x : ℕ). splice d 0 (x ∷ etcs_id own ++ (1 ∷ rb))) (f ∙ ap (λ (y : ℕ). first_byte y 1 0) e)
 
-pub au2-sealed : (d t made key id m rb : List ℕ) (caller : ℕ) → id ≡ etcsId caller → m ≡ take 13 d ++ (rb ++ etcsId caller) → made ≡ mac key id m → t ≡ splice d 13 (part made 0 8)
-    → t ≡ splice d 13 (au2Mac key caller rb (take 13 d))
-unfolding au2Mac
+pub au2-sealed : (d t made key id m rb : List ℕ) (caller : ℕ) → id ≡ etcs_id caller → m ≡ take 13 d ++ (rb ++ etcs_id caller) → made ≡ mac key id m → t ≡ splice d 13 (part made 0 8)
+    → t ≡ splice d 13 (au2_mac key caller rb (take 13 d))
+unfolding au2_mac
 au2-sealed d t made key id m rb caller e f g q =
     q ∙ ap (splice d 13) (part-whole made 8 (ap length g ∙ length-mac key id m) ∙ g ∙ ap₂ (mac key) e f)
 
-pub au2-put : (d s t key ra rb : List ℕ) (own caller ety first : ℕ) → 21 ≤ length d → length ra ≡ 8 → ety ≡ type_of own → first ≡ firstByte ety 2 1
-    → s ≡ splice d 0 (first ∷ etcsId own ++ (1 ∷ ra)) → t ≡ splice s 13 (au2Mac key caller rb (take 13 s)) → t ≡ splice d 0 (au2Unit key own caller ra rb)
-unfolding au2Unit au2Text au2Mac
+pub au2-put : (d s t key ra rb : List ℕ) (own caller ety first : ℕ) → 21 ≤ length d → length ra ≡ 8 → ety ≡ type_of own → first ≡ first_byte ety 2 1
+    → s ≡ splice d 0 (first ∷ etcs_id own ++ (1 ∷ ra)) → t ≡ splice s 13 (au2_mac key caller rb (take 13 s)) → t ≡ splice d 0 (au2_unit key own caller ra rb)
+unfolding au2_unit au2_text au2_mac
 au2-put d s t key ra rb own caller ety first h l e f p q =
-    let v = firstByte (type_of own) 2 1 ∷ etcsId own ++ (1 ∷ ra) in
+    let v = first_byte (type_of own) 2 1 ∷ etcs_id own ++ (1 ∷ ra) in
     let n : length v ≡ 13 = omega arith in
-    let w = au2Mac key caller rb v in
-    let a : s ≡ splice d 0 v = p ∙ ap (λ (x : ℕ). splice d 0 (x ∷ etcsId own ++ (1 ∷ ra))) (f ∙ ap (λ (y : ℕ). firstByte y 2 1) e) in
+    let w = au2_mac key caller rb v in
+    let a : s ≡ splice d 0 v = p ∙ ap (λ (x : ℕ). splice d 0 (x ∷ etcs_id own ++ (1 ∷ ra))) (f ∙ ap (λ (y : ℕ). first_byte y 2 1) e) in
     let b : take 13 s ≡ v = ap (take 13) a ∙ splice_front d v 13 n in
-    q ∙ ap₂ (λ (x y : List ℕ). splice x 13 (au2Mac key caller rb y)) a b
-    ∙ splice-splice d 0 v w 13 n (omega (arith, length-mac key (etcsId caller) (v ++ (rb ++ etcsId caller))))
+    q ∙ ap₂ (λ (x y : List ℕ). splice x 13 (au2_mac key caller rb y)) a b
+    ∙ splice-splice d 0 v w 13 n (omega (arith, length-mac key (etcs_id caller) (v ++ (rb ++ etcs_id caller))))
 
-pub au3-put : (d t m key ra rb : List ℕ) (responder first : ℕ) → first ≡ firstByte 0 3 0 → m ≡ first ∷ rb ++ ra → t ≡ splice d 0 (first ∷ mac key (etcsId responder) m)
-    → t ≡ splice d 0 (au3Unit key responder ra rb)
-unfolding au3Unit au3Mac
+pub au3-put : (d t m key ra rb : List ℕ) (responder first : ℕ) → first ≡ first_byte 0 3 0 → m ≡ first ∷ rb ++ ra → t ≡ splice d 0 (first ∷ mac key (etcs_id responder) m)
+    → t ≡ splice d 0 (au3_unit key responder ra rb)
+unfolding au3_unit au3_mac
 au3-put d t m key ra rb responder first f g q =
-    q ∙ ap (λ (x : List ℕ). splice d 0 (first ∷ mac key (etcsId responder) x)) g ∙ ap (λ (b : ℕ). splice d 0 (b ∷ mac key (etcsId responder) (b ∷ rb ++ ra))) f
+    q ∙ ap (λ (x : List ℕ). splice d 0 (first ∷ mac key (etcs_id responder) x)) g ∙ ap (λ (b : ℕ). splice d 0 (b ∷ mac key (etcs_id responder) (b ∷ rb ++ ra))) f
 
-pub ar-put : (d t key : List ℕ) (caller first : ℕ) → first ≡ firstByte 0 9 1 → t ≡ splice d 0 (first ∷ mac key (etcsId caller) (first ∷ [])) → t ≡ splice d 0 (arUnit key caller)
-unfolding arUnit arMac
-ar-put d t key caller first f q = q ∙ ap (λ (b : ℕ). splice d 0 (b ∷ mac key (etcsId caller) (b ∷ []))) f
+pub ar-put : (d t key : List ℕ) (caller first : ℕ) → first ≡ first_byte 0 9 1 → t ≡ splice d 0 (first ∷ mac key (etcs_id caller) (first ∷ [])) → t ≡ splice d 0 (ar_unit key caller)
+unfolding ar_unit ar_mac
+ar-put d t key caller first f q = q ∙ ap (λ (b : ℕ). splice d 0 (b ∷ mac key (etcs_id caller) (b ∷ []))) f
 
-pub di-put : (d t : List ℕ) (responder : Bool) (reason sub df first : ℕ) → df ≡ flag responder → first ≡ firstByte 0 8 df → t ≡ splice d 0 (part (first ∷ reason ∷ sub ∷ []) 0 3)
-    → t ≡ splice d 0 (diUnit responder reason sub)
-unfolding diUnit part
-di-put d t responder reason sub df first e f q = q ∙ ap (λ (b : ℕ). splice d 0 (b ∷ reason ∷ sub ∷ [])) (f ∙ ap (firstByte 0 8) e)
+pub di-put : (d t : List ℕ) (responder : Bool) (reason sub df first : ℕ) → df ≡ flag responder → first ≡ first_byte 0 8 df → t ≡ splice d 0 (part (first ∷ reason ∷ sub ∷ []) 0 3)
+    → t ≡ splice d 0 (di_unit responder reason sub)
+unfolding di_unit part
+di-put d t responder reason sub df first e f q = q ∙ ap (λ (b : ℕ). splice d 0 (b ∷ reason ∷ sub ∷ [])) (f ∙ ap (first_byte 0 8) e)

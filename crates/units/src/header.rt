@@ -1,6 +1,6 @@
 // The first byte of a unit: ETY three bits, MTI four, direction flag one (6.2.5.1).
 ghost use Rattle.std.specs.Prelude.{◌≡◌, ◌/◌, ◌%◌, ◌<◌};
-ghost use Rattle.authentication.specs.Unit.{flag as flagOf, firstByte};
+ghost use Rattle.authentication.specs.Unit.{flag as flagOf, first_byte};
 
 // Message types (Table 7).
 pub const AU1: u8 = 1;
@@ -37,7 +37,7 @@ pub fn flag(responder: bool) -> u8
 // The three fields joined.
 pub fn first_byte(ety: u8, mti: u8, df: u8) -> u8
     requires { (ety < 8) × (mti < 16) × (df < 2) }
-    ensures { result ≡ firstByte ety mti df }
+    ensures { result ≡ first_byte ety mti df }
 {
     (ety << 5) | (mti << 1) | df
 }

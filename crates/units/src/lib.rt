@@ -2,7 +2,7 @@
 ghost use Rattle.std.specs.Prelude.{◌≡◌, [], ◌∷◌, ◌++◌, ◌+◌, ◌/◌, ◌%◌, ◌≤◌, eqb, length, take};
 ghost use Rattle.octets.specs.Bytes.{splice};
 ghost use Rattle.authentication.specs.Mac.{mac};
-ghost use Rattle.units.specs.Units.{type_of, etcsId, senderOf, random, au1Unit, au2Mac, au2Unit, au3Unit, arUnit, diUnit, test, firstFault, au1Fault, au2Fields, au2Seal, au3Fault, arFault, contentsCode, releaseCode};
+ghost use Rattle.units.specs.Units.{type_of, etcs_id, sender_of, random, au1_unit, au2_mac, au2_unit, au3_unit, ar_unit, di_unit, test, first_fault, au1_fault, au2_fields, au2_seal, au3_fault, ar_fault, contents_code, release_code};
 
 use crate::header::{
     AR, AU1, AU2, AU3, DI, DT, NO_TYPE, TO_INITIATOR, TO_RESPONDER, df, ety, first_byte, flag, mti,
@@ -64,7 +64,7 @@ pub fn type_of(identity: u32) -> u8
 }
 
 pub fn etcs_id(identity: u32) -> [u8; 3]
-    ensures { result ≡ etcsId identity }
+    ensures { result ≡ etcs_id identity }
 {
     [
         (identity / 65536 % 256) as u8,
@@ -76,7 +76,7 @@ pub fn etcs_id(identity: u32) -> [u8; 3]
 // ETY and SA of an AU1 or AU2.
 pub fn sender_of(unit: &[u8]) -> u32
     requires { 4 ≤ length unit.now }
-    ensures { result ≡ senderOf unit.now }
+    ensures { result ≡ sender_of unit.now }
 {
     (ety(unit[0]) as u32) * 16777216 + octets::get32_at(unit, 0) % 16777216
 }
@@ -96,7 +96,7 @@ pub fn random_of(unit: &[u8]) -> [u8; 8]
 // The 13 bytes of an AU1, or of an AU2 before its MAC.
 fn put_text(out: &mut [u8], first: u8, own: u32, random: [u8; 8])
     requires { 13 ≤ length out.old }
-    ensures { out.new ≡ splice out.old 0 (first ∷ etcsId own ++ (1 ∷ random)) }
+    ensures { out.new ≡ splice out.old 0 (first ∷ etcs_id own ++ (1 ∷ random)) }
 {
     let id = etcs_id(own);
     let head = [first, id[0], id[1], id[2], SAF];
@@ -107,7 +107,7 @@ fn put_text(out: &mut [u8], first: u8, own: u32, random: [u8; 8])
 // A first byte and a MAC.
 fn put_sealed(out: &mut [u8], first: u8, key: [u8; 24], destination: u32, message: &[u8])
     requires { 9 ≤ length out.old }
-    ensures { out.new ≡ splice out.old 0 (first ∷ mac key (etcsId destination) message.now) }
+    ensures { out.new ≡ splice out.old 0 (first ∷ mac key (etcs_id destination) message.now) }
 {
     let mac = authentication::mac(key, etcs_id(destination), message);
     out[0] = first;
@@ -117,7 +117,7 @@ fn put_sealed(out: &mut [u8], first: u8, key: [u8; 24], destination: u32, messag
 // The caller's first unit.
 pub fn put_au1(out: &mut [u8], own: u32, rb: [u8; 8])
     requires { (type_of own ≤ 7) × (13 ≤ length out.old) }
-    ensures { out.new ≡ splice out.old 0 (au1Unit own rb) }
+    ensures { out.new ≡ splice out.old 0 (au1_unit own rb) }
 {
     let first = first_byte(type_of(own), AU1, TO_RESPONDER);
     put_text(out, first, own, rb);
@@ -126,7 +126,7 @@ pub fn put_au1(out: &mut [u8], own: u32, rb: [u8; 8])
 // The MAC of an AU2 behind its 13 bytes.
 fn put_au2_mac(out: &mut [u8], key: [u8; 24], caller: u32, rb: [u8; 8])
     requires { 21 ≤ length out.old }
-    ensures { out.new ≡ splice out.old 13 (au2Mac key caller rb (take 13 out.old)) }
+    ensures { out.new ≡ splice out.old 13 (au2_mac key caller rb (take 13 out.old)) }
 {
     let m = au2_message(caller, rb, &out[..AU1_LENGTH]);
     let mac = authentication::mac(key, etcs_id(caller), &m);
@@ -136,7 +136,7 @@ fn put_au2_mac(out: &mut [u8], key: [u8; 24], caller: u32, rb: [u8; 8])
 // The answer of the called side, `own`, to it.
 pub fn put_au2(out: &mut [u8], key: [u8; 24], own: u32, caller: u32, ra: [u8; 8], rb: [u8; 8])
     requires { (type_of own ≤ 7) × (21 ≤ length out.old) }
-    ensures { out.new ≡ splice out.old 0 (au2Unit key own caller ra rb) }
+    ensures { out.new ≡ splice out.old 0 (au2_unit key own caller ra rb) }
 {
     let first = first_byte(type_of(own), AU2, TO_INITIATOR);
     put_text(out, first, own, ra);
@@ -146,7 +146,7 @@ pub fn put_au2(out: &mut [u8], key: [u8; 24], own: u32, caller: u32, ra: [u8; 8]
 // The caller's second unit, to the responder.
 pub fn put_au3(out: &mut [u8], key: [u8; 24], responder: u32, ra: [u8; 8], rb: [u8; 8])
     requires { 9 ≤ length out.old }
-    ensures { out.new ≡ splice out.old 0 (au3Unit key responder ra rb) }
+    ensures { out.new ≡ splice out.old 0 (au3_unit key responder ra rb) }
 {
     let first = first_byte(NO_TYPE, AU3, TO_RESPONDER);
     let m = au3_message(first, ra, rb);
@@ -156,7 +156,7 @@ pub fn put_au3(out: &mut [u8], key: [u8; 24], responder: u32, ra: [u8; 8], rb: [
 // The responder's second unit, to the caller.
 pub fn put_ar(out: &mut [u8], key: [u8; 24], caller: u32)
     requires { 9 ≤ length out.old }
-    ensures { out.new ≡ splice out.old 0 (arUnit key caller) }
+    ensures { out.new ≡ splice out.old 0 (ar_unit key caller) }
 {
     let first = first_byte(NO_TYPE, AR, TO_INITIATOR);
     let m = [first];
@@ -166,7 +166,7 @@ pub fn put_ar(out: &mut [u8], key: [u8; 24], caller: u32)
 // The unit that ends a connection.
 pub fn put_di(out: &mut [u8], responder: bool, reason: u8, sub: u8)
     requires { 3 ≤ length out.old }
-    ensures { out.new ≡ splice out.old 0 (diUnit responder reason sub) }
+    ensures { out.new ≡ splice out.old 0 (di_unit responder reason sub) }
 {
     let first = first_byte(NO_TYPE, DI, flag(responder));
     let d = [first, reason, sub];
@@ -176,7 +176,7 @@ pub fn put_di(out: &mut [u8], responder: bool, reason: u8, sub: u8)
 // ---- judging
 
 pub fn au1_fault(unit: &[u8]) -> Fault
-    ensures { result ≡ au1Fault unit.now }
+    ensures { result ≡ au1_fault unit.now }
 {
     if unit.len() != AU1_LENGTH {
         return Fault::Bad(LENGTH, LENGTH_OF_AU1);
@@ -195,7 +195,7 @@ pub fn au1_fault(unit: &[u8]) -> Fault
 
 // Of an AU2, what is judged before the session key can be made of its random number.
 pub fn au2_fields(peer: u32, unit: &[u8]) -> Fault
-    ensures { result ≡ au2Fields peer unit.now }
+    ensures { result ≡ au2_fields peer unit.now }
 {
     if unit.len() != AU2_LENGTH {
         return Fault::Bad(LENGTH, LENGTH_OF_AU2);
@@ -215,7 +215,7 @@ pub fn au2_fields(peer: u32, unit: &[u8]) -> Fault
 // And what is judged with it.
 pub fn au2_seal(key: [u8; 24], own: u32, rb: [u8; 8], unit: &[u8]) -> Fault
     requires { length unit.now ≡ 21 }
-    ensures { result ≡ au2Seal key own rb unit.now }
+    ensures { result ≡ au2_seal key own rb unit.now }
 {
     let m = au2_message(own, rb, &unit[..AU1_LENGTH]);
     if !authentication::mac_is(key, etcs_id(own), &m, &unit[AU1_LENGTH..]) {
@@ -229,7 +229,7 @@ pub fn au2_seal(key: [u8; 24], own: u32, rb: [u8; 8], unit: &[u8]) -> Fault
 
 // The first byte of an AU3 or AR whose MAC is right: the type that is due, no ETY, and the flag; `other` and `swapped` are the sub-reasons of the first and the last.
 fn header_fault(first: u8, due: u8, other: u8, direction: u8, swapped: u8) -> Fault
-    ensures { result ≡ firstFault (test (eqb (first / 2 % 16) due) 9 other ∷ test (eqb (first / 32) 0) 8 1 ∷ test (eqb (first % 2) direction) 6 swapped ∷ []) }
+    ensures { result ≡ first_fault (test (eqb (first / 2 % 16) due) 9 other ∷ test (eqb (first / 32) 0) 8 1 ∷ test (eqb (first % 2) direction) 6 swapped ∷ []) }
 {
     if mti(first) != due {
         return Fault::Bad(SEQUENCE, other);
@@ -244,7 +244,7 @@ fn header_fault(first: u8, due: u8, other: u8, direction: u8, swapped: u8) -> Fa
 }
 
 pub fn au3_fault(key: [u8; 24], own: u32, ra: [u8; 8], rb: [u8; 8], unit: &[u8]) -> Fault
-    ensures { result ≡ au3Fault key own ra rb unit.now }
+    ensures { result ≡ au3_fault key own ra rb unit.now }
 {
     if unit.len() != SEALED_LENGTH {
         return Fault::Bad(LENGTH, LENGTH_OF_AU3);
@@ -257,7 +257,7 @@ pub fn au3_fault(key: [u8; 24], own: u32, ra: [u8; 8], rb: [u8; 8], unit: &[u8])
 }
 
 pub fn ar_fault(key: [u8; 24], own: u32, unit: &[u8]) -> Fault
-    ensures { result ≡ arFault key own unit.now }
+    ensures { result ≡ ar_fault key own unit.now }
 {
     if unit.len() != SEALED_LENGTH {
         return Fault::Bad(LENGTH, LENGTH_OF_AR);
@@ -272,7 +272,7 @@ pub fn ar_fault(key: [u8; 24], own: u32, unit: &[u8]) -> Fault
 
 // Of a DT that is refused with H9.
 pub fn contents_code(responder: bool, unit: &[u8]) -> Code
-    ensures { result ≡ contentsCode responder unit.now }
+    ensures { result ≡ contents_code responder unit.now }
 {
     if unit.len() < DT_LEAST {
         return Code {
@@ -306,7 +306,7 @@ pub fn contents_code(responder: bool, unit: &[u8]) -> Code
 
 // Of T-DISC.ind with this reason and unit; without a unit it has no bytes.
 pub fn release_code(reason: u8, unit: &[u8]) -> Code
-    ensures { result ≡ releaseCode reason unit.now }
+    ensures { result ≡ release_code reason unit.now }
 {
     if unit.len() == 0 {
         return Code {

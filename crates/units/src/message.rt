@@ -1,13 +1,13 @@
 // The strings that the MACs of set-up are made of, which hold more than their units (6.2.3.2.1.9, .10).
 ghost use Rattle.std.specs.Prelude.{◌≡◌, ◌∷◌, ◌++◌, length};
-ghost use Rattle.units.specs.Units.{etcsId};
+ghost use Rattle.units.specs.Units.{etcs_id};
 
 use crate::{AU1_LENGTH, RANDOM, etcs_id};
 
 // The string of an AU2's MAC: its 13 bytes, of which the last eight are RA, then RB, then B.
 pub fn au2_message(caller: u32, rb: [u8; 8], text: &[u8]) -> [u8; 24]
     requires { length text.now ≡ 13 }
-    ensures { result ≡ text.now ++ (rb ++ etcsId caller) }
+    ensures { result ≡ text.now ++ (rb ++ etcs_id caller) }
 {
     let id = etcs_id(caller);
     let mut m = [0u8; 24];

@@ -3,11 +3,11 @@
 use Rattle.std.proofs.Common.{◌≡◌, ℕ, zero, suc, ◌-◌, ◌*◌, Bool, true, false, List, [], ◌∷◌, ◌++◌, replicate, refl}
 use lib.Count.{ones, ones_in}
 use Rattle.refusal.specs.House.{Answer, house, gives}
-use Rattle.octets.specs.Bytes.{part, all_below, allZero}
+use Rattle.octets.specs.Bytes.{part, all_below, all_zero}
 use Rattle.octets.specs.Words.{numbers, words}
 use Rattle.store.specs.Layout.{edition1, edition2}
-use Rattle.store.specs.Store.{Entry, peersOf, header, keyRecord, keyRecords, encode, entries, entriesFrom, sound, allHold, headerOk, countsOk, sumBefore, sumsOk, newKey, uniqueOk, allOdd, parityOk, unusedOk}
-use Rattle.convert.specs.Convert.{hasRoom, answered, converted}
+use Rattle.store.specs.Store.{Entry, peers_of, header, key_record, key_records, encode, entries, entries_from, sound, all_hold, header_ok, counts_ok, sum_before, sums_ok, new_key, unique_ok, all_odd, parity_ok, unused_ok}
+use Rattle.convert.specs.Convert.{has_room, answered, converted}
 
 -- two keys with two peers and one, byte for byte: issuer, serial, KMAC, start, end, first peer index, peer count
 abbrev records : List ℕ
@@ -27,11 +27,11 @@ large = 0 ∷ 2 ∷ 0 ∷ 2 ∷ 0 ∷ 12 ∷ 0 ∷ 3 ∷ 0x55 ∷ 0xfc ∷ 0x94 
 
 -- one becomes the other, whatever stood in the target
 there : converted edition1 edition2 small (replicate 38012 0xff) ≡ large
-unfolding converted answered hasRoom encode header keyRecord keyRecords peersOf words numbers entries entriesFrom sound allHold headerOk countsOk sumBefore sumsOk newKey uniqueOk allOdd parityOk unusedOk all_below allZero part ones ones_in
+unfolding converted answered has_room encode header key_record key_records peers_of words numbers entries entries_from sound all_hold header_ok counts_ok sum_before sums_ok new_key unique_ok all_odd parity_ok unused_ok all_below all_zero part ones ones_in
 there = refl
 
 back : converted edition2 edition1 large (replicate 3852 0xff) ≡ small
-unfolding converted answered hasRoom encode header keyRecord keyRecords peersOf words numbers entries entriesFrom sound allHold headerOk countsOk sumBefore sumsOk newKey uniqueOk allOdd parityOk unusedOk all_below allZero part ones ones_in
+unfolding converted answered has_room encode header key_record key_records peers_of words numbers entries entries_from sound all_hold header_ok counts_ok sum_before sums_ok new_key unique_ok all_odd parity_ok unused_ok all_below all_zero part ones ones_in
 back = refl
 
 -- n keys without peers, and one key with n peers
@@ -39,29 +39,29 @@ keys : ℕ → List Entry
 keys zero = []
 keys (suc n) = record { issuer = 1; serial = n; kmac = replicate 24 1; start = 5; end = 9; peers = [] } ∷ keys n
 
-abbrev with-peers : ℕ → List Entry
-with-peers n = record { issuer = 1; serial = 7; kmac = replicate 24 1; start = 5; end = 9; peers = replicate n 3 } ∷ []
+abbrev entries_with_peers : ℕ → List Entry
+entries_with_peers n = record { issuer = 1; serial = 7; kmac = replicate 24 1; start = 5; end = 9; peers = replicate n 3 } ∷ []
 
 -- 64 keys have room in edition 1, and 65 do not
 abbrev room : List Bool
-room = hasRoom edition1 (keys 64) ∷ hasRoom edition1 (keys 65) ∷ hasRoom edition2 (keys 65) ∷ []
+room = has_room edition1 (keys 64) ∷ has_room edition1 (keys 65) ∷ has_room edition2 (keys 65) ∷ []
 
 room-is : room ≡ true ∷ false ∷ true ∷ []
-unfolding hasRoom keys peersOf
+unfolding has_room keys peers_of
 room-is = refl
 
 -- 256 peers go back and 257 do not; a store that says it holds 257 peers and no key; the lengths exchanged, two of edition 1, and the header of edition 2 in
 -- a store of edition 1's length
 abbrev answers : List Answer
 answers =
-    answered edition2 edition1 (encode edition2 (with-peers 256)) small
-    ∷ answered edition2 edition1 (encode edition2 (with-peers 257)) small
+    answered edition2 edition1 (encode edition2 (entries_with_peers 256)) small
+    ∷ answered edition2 edition1 (encode edition2 (entries_with_peers 257)) small
     ∷ answered edition2 edition1 (0 ∷ 2 ∷ 0 ∷ 0 ∷ 0 ∷ 12 ∷ 1 ∷ 1 ∷ 0x55 ∷ 0xfc ∷ 0x94 ∷ 0x7c ∷ replicate 38000 0) small
     ∷ answered edition1 edition2 large small
     ∷ answered edition1 edition2 small small
     ∷ answered edition1 edition2 (0 ∷ 2 ∷ 0 ∷ 2 ∷ 0 ∷ 12 ∷ 0 ∷ 3 ∷ 0x55 ∷ 0xfc ∷ 0x94 ∷ 0x7c ∷ records ++ (replicate (44 * 62) 0 ++ (peers ++ replicate (4 * 253) 0))) large
     ∷ []
 
-answers-are : answers ≡ gives 0 ∷ house 14 ∷ house 12 ∷ house 1 ∷ house 1 ∷ house 12 ∷ []
-unfolding answered hasRoom encode header keyRecord keyRecords peersOf words numbers entries entriesFrom sound allHold headerOk countsOk sumBefore sumsOk newKey uniqueOk allOdd parityOk unusedOk all_below allZero part ones ones_in
-answers-are = refl
+answers_are : answers ≡ gives 0 ∷ house 14 ∷ house 12 ∷ house 1 ∷ house 1 ∷ house 12 ∷ []
+unfolding answered has_room encode header key_record key_records peers_of words numbers entries entries_from sound all_hold header_ok counts_ok sum_before sums_ok new_key unique_ok all_odd parity_ok unused_ok all_below all_zero part ones ones_in
+answers_are = refl

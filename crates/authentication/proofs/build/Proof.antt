@@ -5,8 +5,8 @@ use mathlib.Core.Bool.{true}
 use Prim.Native.Nat.{◌-◌}
 use lib.ListN.{length}
 use Rattle.octets.specs.Bytes.{between}
-use Rattle.octets.proofs.BoolLaws.{between-true, test-holds, test-fails}
-use Rattle.authentication.proofs.AnswerLaws.{build-key-wrong, build-out-wrong, build-data-wrong, build-right}
+use Rattle.octets.proofs.BoolLaws.{between-true, test-holds, test_fails}
+use Rattle.authentication.proofs.AnswerLaws.{build_key_wrong, build_out_wrong, build_data_wrong, build_right}
 use borrow.Author.Rules.{rules}
 use native.Mathlib.Omega.{arith}
 use Rattle.authentication.proofs.build.Statement.{statement}
@@ -19,12 +19,12 @@ data-right c = test-holds c.before.between.result c.before.between.ensures c.if3
 returns : tie.Need-returns
 returns c =
     let a = c.before.before.before.before.args in
-    build-key-wrong a.key.now a.destination a.direction a.user.now a.out.now c.if1.true
+    build_key_wrong a.key.now a.destination a.direction a.user.now a.out.now c.if1.true
 
 returns-2 : tie.Need-returns-2
 returns-2 c =
     let a = c.before.before.before.before.before.args in
-    build-out-wrong a.key.now a.destination a.direction a.user.now a.out.now c.before.if1.false c.if2.true
+    build_out_wrong a.key.now a.destination a.direction a.user.now a.out.now c.before.if1.false c.if2.true
 
 between-requires : tie.Need-between-requires
 between-requires c κs = search rules
@@ -34,7 +34,7 @@ returns-3 c =
     let user = c.before in
     let out = user.before in
     let a = out.before.before.before.before.before.args in
-    build-data-wrong a.key.now a.destination a.direction a.user.now a.out.now out.before.if1.false out.if2.false (test-fails user.between.result user.between.ensures c.if3.true)
+    build_data_wrong a.key.now a.destination a.direction a.user.now a.out.now out.before.if1.false out.if2.false (test_fails user.between.result user.between.ensures c.if3.true)
 
 put-unit-requires : tie.Need-put-unit-requires
 put-unit-requires c κs =
@@ -55,7 +55,7 @@ returns-4 c =
     let right = put.before.before in
     let out = right.before.before in
     let a = out.before.before.before.before.before.args in
-    build-right a.key.now a.destination a.direction a.user.now a.out.now put.put-unit.new.0 out.before.if1.false out.if2.false (data-right right) put.put-unit.ensures
+    build_right a.key.now a.destination a.direction a.user.now a.out.now put.put-unit.new.0 out.before.if1.false out.if2.false (data-right right) put.put-unit.ensures
 
 pub build-spec : {M : Type 1} → statement M
 build-spec =

@@ -5,8 +5,8 @@ use mathlib.Core.Bool.{true}
 use Prim.Native.Nat.{◌-◌}
 use lib.ListN.{length}
 use Rattle.octets.specs.Bytes.{between}
-use Rattle.octets.proofs.BoolLaws.{between-true, test-holds, test-fails}
-use Rattle.authentication.proofs.AnswerLaws.{key-wrong, length-wrong, mac-wrong, contents-wrong, all_right}
+use Rattle.octets.proofs.BoolLaws.{between-true, test-holds, test_fails}
+use Rattle.authentication.proofs.AnswerLaws.{key_wrong, length_wrong, mac_wrong, contents_wrong, all_right}
 use borrow.Author.Rules.{rules}
 use Rattle.authentication.proofs.check.Statement.{statement}
 use Rattle.authentication.proofs.check.Tie as tie
@@ -18,7 +18,7 @@ long-right c = test-holds c.before.between.result c.before.between.ensures c.if2
 returns : tie.Need-returns
 returns c =
     let a = c.before.before.before.args in
-    key-wrong a.unit.now a.key.now a.destination a.direction c.if1.true
+    key_wrong a.unit.now a.key.now a.destination a.direction c.if1.true
 
 between-requires : tie.Need-between-requires
 between-requires c κs = search rules
@@ -27,7 +27,7 @@ returns-2 : tie.Need-returns-2
 returns-2 c =
     let long = c.before in
     let a = long.before.before.before.before.args in
-    length-wrong a.unit.now a.key.now a.destination a.direction long.before.if1.false (test-fails long.between.result long.between.ensures c.if2.true)
+    length_wrong a.unit.now a.key.now a.destination a.direction long.before.if1.false (test_fails long.between.result long.between.ensures c.if2.true)
 
 mac-right-requires : tie.Need-mac-right-requires
 mac-right-requires c κs =
@@ -40,7 +40,7 @@ returns-3 c =
     let long = made.before in
     let key = long.before.before in
     let a = key.before.before.before.args in
-    mac-wrong a.unit.now a.key.now a.destination a.direction key.if1.false (long-right long) (test-fails made.mac-right.result made.mac-right.ensures c.if3.true)
+    mac_wrong a.unit.now a.key.now a.destination a.direction key.if1.false (long-right long) (test_fails made.mac_right_lem.result made.mac_right_lem.ensures c.if3.true)
 
 contents-right-requires : tie.Need-contents-right-requires
 contents-right-requires c κs = search rules
@@ -52,8 +52,8 @@ returns-4 c =
     let long = made.before in
     let key = long.before.before in
     let a = key.before.before.before.args in
-    contents-wrong a.unit.now a.key.now a.destination a.direction key.if1.false (long-right long) (test-holds made.mac-right.result made.mac-right.ensures last.before.if3.false)
-    (test-fails last.contents-right.result last.contents-right.ensures c.if4.true)
+    contents_wrong a.unit.now a.key.now a.destination a.direction key.if1.false (long-right long) (test-holds made.mac_right_lem.result made.mac_right_lem.ensures last.before.if3.false)
+    (test_fails last.contents-right.result last.contents-right.ensures c.if4.true)
 
 sub-t12 : tie.Need-overflow-sub-t12
 sub-t12 c =
@@ -68,7 +68,7 @@ returns-5 c =
     let long = made.before in
     let key = long.before.before in
     let a = key.before.before.before.args in
-    all_right a.unit.now a.key.now a.destination a.direction key.if1.false (long-right long) (test-holds made.mac-right.result made.mac-right.ensures last.before.if3.false)
+    all_right a.unit.now a.key.now a.destination a.direction key.if1.false (long-right long) (test-holds made.mac_right_lem.result made.mac_right_lem.ensures last.before.if3.false)
     (test-holds last.contents-right.result last.contents-right.ensures c.if4.false)
 
 pub check-spec : {M : Type 1} → statement M

@@ -3,7 +3,7 @@
 use mathlib.Core.Path.{◌≡◌}
 use Prim.Native.Nat.{◌+◌, ◌-◌}
 use lib.ListN.{length}
-use Rattle.authentication.proofs.AnswerLaws.{data-refused, data-length, data-accepted}
+use Rattle.authentication.proofs.AnswerLaws.{data_refused, data_length, data_accepted}
 use borrow.Author.Rules.{rules}
 use native.Mathlib.Omega.{arith}
 use Rattle.authentication.proofs.user_data.Statement.{statement}
@@ -14,7 +14,7 @@ room : (c : tie.After-known-told) → let p = c.before.before.before in c.before
 room c =
     let p = c.before.before.before in
     let a = p.before.before.before.args in
-    data-length a.unit.now a.key.now a.destination a.direction p.check.result p.check.ensures c.before.n.given.0.0 c.before.n.given.1
+    data_length a.unit.now a.key.now a.destination a.direction p.check.result p.check.ensures c.before.n.given.0.0 c.before.n.given.1
 
 check-requires : tie.Need-check-requires
 check-requires c κs = search rules
@@ -32,7 +32,7 @@ returns : tie.Need-returns
 returns c =
     let p = c.before.before.before in
     let a = p.before.before.before.args in
-    data-refused a.unit.now a.key.now a.destination a.direction p.check.result p.check.ensures c.before.enum_told.given.0.0 c.before.enum_told.given.1
+    data_refused a.unit.now a.key.now a.destination a.direction p.check.result p.check.ensures c.before.enum_told.given.0.0 c.before.enum_told.given.1
 
 add-end : tie.Need-overflow-add-end
 add-end c = omega (arith, room c)
@@ -51,7 +51,7 @@ returns-2 c =
     let n = c.before.before.n in
     let p = c.before.before.before.before in
     let a = p.before.before.before.args in
-    data-accepted a.unit.now a.key.now a.destination a.direction p.check.result p.check.ensures n.given.0.0 n.given.1
+    data_accepted a.unit.now a.key.now a.destination a.direction p.check.result p.check.ensures n.given.0.0 n.given.1
 
 pub user-data-spec : {M : Type 1} → statement M
 user-data-spec =

@@ -3,8 +3,8 @@
 use Prim.Native.Nat.{◌-◌}
 use borrow.Author.Rules.{rules}
 use Rattle.message.specs.declared.Command.{Command}
-use Rattle.message.specs.Body.{requestAt}
-use Rattle.command.proofs.ReadLaws.{worked-as}
+use Rattle.message.specs.Body.{request_at}
+use Rattle.command.proofs.ReadLaws.{worked_as}
 use Rattle.command.proofs.add_one.Statement.{statement}
 use Rattle.command.proofs.add_one.Tie as tie
 
@@ -23,7 +23,7 @@ returns c =
     let read = called.before.before in
     let start = read.before.before.before in
     let a = start.args in
-    worked-as a.lim a.own _ (requestAt Command.Adds a.m.now a.i) a.s.now called.add.new.0 called.add.result read.addition-at.ensures.is called.add.ensures
+    worked_as a.lim a.own _ (request_at Command.Adds a.m.now a.i) a.s.now called.add.new.0 called.add.result read.addition-at.ensures.is called.add.ensures
 
 pub add-one-spec : {M : Type 1} → statement M
 add-one-spec = tie.close (tie.spec addition-at-requires add-requires same_length returns)

@@ -82,8 +82,8 @@ returns c =
     record {
       is = addition-is a.m.now a.i g.get32-at.result f.get32-at2.result d.get32-at3.result n.get16-at.result e.get32-at4.result c.get32-at5.result
           g.get32-at.ensures f.get32-at2.ensures d.get32-at3.ensures n.get16-at.ensures e.get32-at4.ensures c.get32-at5.ensures;
-      kmac-inside = omega arith;
-      peers-inside = omega arith;
+      kmac_inside = omega arith;
+      peers_inside = omega arith;
     }
 
 pub addition-at-spec : {M : Type 1} → statement M

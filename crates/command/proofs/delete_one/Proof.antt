@@ -5,8 +5,8 @@ use Prim.Native.Nat.{◌+◌, ◌-◌}
 use borrow.Author.Rules.{rules}
 use Rattle.octets.specs.Bytes.{get32}
 use Rattle.store.specs.Request.{delete}
-use Rattle.message.specs.Body.{size_at, requestAt}
-use Rattle.command.proofs.ReadLaws.{worked-as}
+use Rattle.message.specs.Body.{size_at, request_at}
+use Rattle.command.proofs.ReadLaws.{worked_as}
 use native.Mathlib.Omega.{arith}
 use Rattle.command.proofs.delete_one.Statement.{statement}
 use Rattle.command.proofs.delete_one.Tie as tie
@@ -29,13 +29,13 @@ same_length : tie.Need-same-length
 same_length c = search rules
 
 returns : tie.Need-returns
-unfolding requestAt
+unfolding request_at
 returns c =
     let called = c.before.before in
     let second = called.before in
     let first = second.before in
     let a = first.before.before.before.before.args in
-    worked-as a.lim a.own (delete first.get32-at.result second.get32-at2.result) (delete (get32 a.m.now a.i) (get32 a.m.now (a.i + 4))) a.s.now called.delete.new.0
+    worked_as a.lim a.own (delete first.get32-at.result second.get32-at2.result) (delete (get32 a.m.now a.i) (get32 a.m.now (a.i + 4))) a.s.now called.delete.new.0
     called.delete.result (ap₂ delete first.get32-at.ensures second.get32-at2.ensures) (called.delete.ensures a.own)
 
 pub delete-one-spec : {M : Type 1} → statement M

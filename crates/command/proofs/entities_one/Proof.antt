@@ -6,8 +6,8 @@ use borrow.Author.Rules.{rules}
 use Rattle.octets.specs.Bytes.{get16, get32}
 use Rattle.octets.specs.Words.{numbers}
 use Rattle.store.specs.Request.{entities}
-use Rattle.message.specs.Body.{size_at, requestAt}
-use Rattle.command.proofs.ReadLaws.{worked-as}
+use Rattle.message.specs.Body.{size_at, request_at}
+use Rattle.command.proofs.ReadLaws.{worked_as}
 use native.Mathlib.Omega.{arith}
 use Rattle.command.proofs.entities_one.Statement.{statement}
 use Rattle.command.proofs.entities_one.Tie as tie
@@ -47,7 +47,7 @@ same_length : tie.Need-same-length
 same_length c = search rules
 
 returns : tie.Need-returns
-unfolding requestAt
+unfolding request_at
 returns c =
     let called = c.before.before in
     let e = called.before.before in
@@ -58,7 +58,7 @@ returns c =
     let i = a.i in
     let q : entities g.get32-at.result f.get32-at2.result (numbers m (i + 10) e.get16-at.result) ≡ entities (get32 m i) (get32 m (i + 4)) (numbers m (i + 10) (get16 m (i + 8))) =
     cc (g.get32-at.ensures, f.get32-at2.ensures, e.get16-at.ensures) in
-    worked-as a.lim a.own _ _ a.s.now called.set-entities.new.0 called.set-entities.result q (called.set-entities.ensures a.own)
+    worked_as a.lim a.own _ _ a.s.now called.set-entities.new.0 called.set-entities.result q (called.set-entities.ensures a.own)
 
 pub entities-one-spec : {M : Type 1} → statement M
 entities-one-spec =

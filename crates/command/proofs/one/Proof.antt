@@ -5,8 +5,8 @@ use Prim.Native.Nat.{◌+◌, ◌-◌, ◌≤◌}
 use lib.ListN.{length}
 use borrow.Author.Rules.{rules}
 use Rattle.message.specs.declared.Command.{Command}
-use Rattle.message.specs.Body.{size_at, requestAt}
-use Rattle.command.proofs.ReadLaws.{worked-as}
+use Rattle.message.specs.Body.{size_at, request_at}
+use Rattle.command.proofs.ReadLaws.{worked_as}
 use Rattle.command.proofs.one.Statement.{statement}
 use Rattle.command.proofs.one.Tie as tie
 
@@ -58,7 +58,7 @@ returns c =
     let called = c.before.before in
     let told = called.before.before in
     let a = told.before.before.before.before.args in
-    worked-as a.lim a.own _ _ a.s.now called.add-one.new.0 called.add-one.result (ap (λ (k : Command). requestAt k a.m.now a.i) (sym told.enum_told.given.1)) called.add-one.ensures
+    worked_as a.lim a.own _ _ a.s.now called.add-one.new.0 called.add-one.result (ap (λ (k : Command). request_at k a.m.now a.i) (sym told.enum_told.given.1)) called.add-one.ensures
 
 same-length-2 : tie.Need-same-length-2
 same-length-2 c = search rules
@@ -68,7 +68,7 @@ returns-2 c =
     let called = c.before.before in
     let told = called.before.before in
     let a = told.before.before.before.before.args in
-    worked-as a.lim a.own _ _ a.s.now called.delete-one.new.0 called.delete-one.result (ap (λ (k : Command). requestAt k a.m.now a.i) (sym told.enum-told2.given.1)) called.delete-one.ensures
+    worked_as a.lim a.own _ _ a.s.now called.delete-one.new.0 called.delete-one.result (ap (λ (k : Command). request_at k a.m.now a.i) (sym told.enum-told2.given.1)) called.delete-one.ensures
 
 same-length-3 : tie.Need-same-length-3
 same-length-3 c = search rules
@@ -78,7 +78,7 @@ returns-3 c =
     let called = c.before.before in
     let told = called.before.before in
     let a = told.before.before.before.before.args in
-    worked-as a.lim a.own _ _ a.s.now called.validity-one.new.0 called.validity-one.result (ap (λ (k : Command). requestAt k a.m.now a.i) (sym told.enum-told3.given.1)) called.validity-one.ensures
+    worked_as a.lim a.own _ _ a.s.now called.validity-one.new.0 called.validity-one.result (ap (λ (k : Command). request_at k a.m.now a.i) (sym told.enum-told3.given.1)) called.validity-one.ensures
 
 same-length-4 : tie.Need-same-length-4
 same-length-4 c = search rules
@@ -88,7 +88,7 @@ returns-4 c =
     let called = c.before.before in
     let told = called.before.before in
     let a = told.before.before.before.before.args in
-    worked-as a.lim a.own _ _ a.s.now called.entities-one.new.0 called.entities-one.result (ap (λ (k : Command). requestAt k a.m.now a.i) (sym told.enum-told4.given.1)) called.entities-one.ensures
+    worked_as a.lim a.own _ _ a.s.now called.entities-one.new.0 called.entities-one.result (ap (λ (k : Command). request_at k a.m.now a.i) (sym told.enum-told4.given.1)) called.entities-one.ensures
 
 pub one_spec : {M : Type 1} → statement M
 one_spec =

@@ -5,8 +5,8 @@ use Prim.Native.Nat.{◌+◌, ◌-◌}
 use borrow.Author.Rules.{rules}
 use Rattle.octets.specs.Bytes.{get32}
 use Rattle.store.specs.Request.{validity}
-use Rattle.message.specs.Body.{size_at, requestAt}
-use Rattle.command.proofs.ReadLaws.{worked-as}
+use Rattle.message.specs.Body.{size_at, request_at}
+use Rattle.command.proofs.ReadLaws.{worked_as}
 use native.Mathlib.Omega.{arith}
 use Rattle.command.proofs.validity_one.Statement.{statement}
 use Rattle.command.proofs.validity_one.Tie as tie
@@ -43,7 +43,7 @@ same_length : tie.Need-same-length
 same_length c = search rules
 
 returns : tie.Need-returns
-unfolding requestAt
+unfolding request_at
 returns c =
     let called = c.before.before in
     let d = called.before.before in
@@ -55,7 +55,7 @@ returns c =
     let i = a.i in
     let q : validity g.get32-at.result f.get32-at2.result e.get32-at3.result d.get32-at4.result ≡ validity (get32 m i) (get32 m (i + 4)) (get32 m (i + 8)) (get32 m (i + 12)) =
     cc (g.get32-at.ensures, f.get32-at2.ensures, e.get32-at3.ensures, d.get32-at4.ensures) in
-    worked-as a.lim a.own _ _ a.s.now called.set-validity.new.0 called.set-validity.result q (called.set-validity.ensures a.own)
+    worked_as a.lim a.own _ _ a.s.now called.set-validity.new.0 called.set-validity.result q (called.set-validity.ensures a.own)
 
 pub validity-one-spec : {M : Type 1} → statement M
 validity-one-spec =

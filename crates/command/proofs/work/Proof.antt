@@ -3,7 +3,7 @@
 use mathlib.Core.Path.{◌≡◌, refl}
 use Prim.Native.Nat.{◌-◌, ◌≤◌}
 use lib.ListN.{length, length-set}
-use Rattle.command.proofs.WorkLaws.{Going, going_start, going-sound, next-ok, next_fits, going-turn, going_end}
+use Rattle.command.proofs.WorkLaws.{Going, going_start, going_sound, next-ok, next_fits, going_turn, going_end}
 use native.Mathlib.Omega.{arith}
 use Rattle.command.proofs.work.Statement.{statement}
 use Rattle.command.proofs.work.Tie as tie
@@ -37,7 +37,7 @@ one-requires c κs =
     let start = l.before.before.before.before in
     let a = start.args in
     let w = l.loop.invariant.1.1.1 in (
-      going-sound a.lim a.own a.command a.m.now a.n a.s.now a.out.now start.requires.0 l.loop.i l.loop.k l.loop.s l.loop.out w,
+      going_sound a.lim a.own a.command a.m.now a.n a.s.now a.out.now start.requires.0 l.loop.i l.loop.k l.loop.s l.loop.out w,
       next_fits a.lim a.own a.command a.m.now a.n a.s.now a.out.now l.loop.i l.loop.k l.loop.s l.loop.out w test.loop-test.true,
     )
 
@@ -79,7 +79,7 @@ loop-again c =
         omega arith,
         (
           simp length-set l.loop.invariant.1.1.0,
-          going-turn a.lim a.own a.command a.m.now a.n a.s.now a.out.now l.loop.i l.loop.k l.loop.s l.loop.out l.loop.invariant.1.1.1 sized.before.loop-test.true
+          going_turn a.lim a.own a.command a.m.now a.n a.s.now a.out.now l.loop.i l.loop.k l.loop.s l.loop.out l.loop.invariant.1.1.1 sized.before.loop-test.true
               start.requires.0 (λ j. (known.shared-slice-known.given j).fits) l.loop.invariant.1.1.0 start.requires.1.1.1 sized.size-at.result called.one.result called.one.new.0
               sized.size-at.ensures called.one.ensures,
         ),

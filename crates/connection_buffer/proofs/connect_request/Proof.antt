@@ -4,7 +4,7 @@ use Prim.Native.Nat.{◌≤◌}
 use native.Mathlib.Omega.{arith}
 use lib.ListN.{length}
 use Rattle.octets.specs.Bytes.{nonzero}
-use Rattle.table.specs.Steps.{connectRequest}
+use Rattle.table.specs.Steps.{connect_request}
 use Rattle.connection_buffer.proofs.TellLaws.{told-short, tells}
 use borrow.Author.Rules.{rules}
 use Rattle.connection_buffer.proofs.connect_request.Statement.{statement}
@@ -23,7 +23,7 @@ tell-requires c κs =
     let start = load.before.before.before.before in
     let a = start.args in
     let most : length a.rb ≤ 8 = omega (arith, start.well-formed.1.1.1.1.1.0.1.0.1) in
-    told-short (connectRequest (nonzero a.acceptable) a.own a.peer a.t a.rb a.store.now) a.connection.now a.out.now load.load.result load.load.ensures step.request.ensures most
+    told-short (connect_request (nonzero a.acceptable) a.own a.peer a.t a.rb a.store.now) a.connection.now a.out.now load.load.result load.load.ensures step.request.ensures most
 
 same_length : tie.Need-same-length
 same_length c = search rules
@@ -33,7 +33,7 @@ returns c =
     let step = c.before.before.before.before.before in
     let load = step.before.before in
     let a = load.before.before.before.before.args in
-    tells (connectRequest (nonzero a.acceptable) a.own a.peer a.t a.rb a.store.now) a.connection.now a.out.now load.load.result load.load.ensures step.request.ensures
+    tells (connect_request (nonzero a.acceptable) a.own a.peer a.t a.rb a.store.now) a.connection.now a.out.now load.load.result load.load.ensures step.request.ensures
     c.tell.result c.tell.new.1.0 a.events.now c.tell.new.1.1.0 (record { sfits = c.tell.type-inv }) c.tell.ensures.0 c.tell.ensures.1.0 c.tell.ensures.1.1
 
 pub connect-request-spec : {M : Type 1} → statement M

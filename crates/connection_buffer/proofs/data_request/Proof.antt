@@ -1,7 +1,7 @@
 -- `connection_buffer::data_request` meets its contract.
 -- Assumes nothing.
 use lib.Dec.{lit≤}
-use Rattle.table.specs.Steps.{dataRequest}
+use Rattle.table.specs.Steps.{data_request}
 use Rattle.connection_buffer.proofs.TellLaws.{told-short, tells}
 use borrow.Author.Rules.{rules}
 use Rattle.connection_buffer.proofs.data_request.Statement.{statement}
@@ -18,7 +18,7 @@ tell-requires c κs =
     let step = c.before.before.before.before in
     let load = step.before.before in
     let a = load.before.before.before.before.args in
-    told-short (dataRequest a.user.now) a.connection.now a.out.now load.load.result load.load.ensures step.send.ensures (lit≤ tt)
+    told-short (data_request a.user.now) a.connection.now a.out.now load.load.result load.load.ensures step.send.ensures (lit≤ tt)
 
 same_length : tie.Need-same-length
 same_length c = search rules
@@ -28,7 +28,7 @@ returns c =
     let step = c.before.before.before.before.before in
     let load = step.before.before in
     let a = load.before.before.before.before.args in
-    tells (dataRequest a.user.now) a.connection.now a.out.now load.load.result load.load.ensures step.send.ensures
+    tells (data_request a.user.now) a.connection.now a.out.now load.load.result load.load.ensures step.send.ensures
     c.tell.result c.tell.new.1.0 a.events.now c.tell.new.1.1.0 (record { sfits = c.tell.type-inv }) c.tell.ensures.0 c.tell.ensures.1.0 c.tell.ensures.1.1
 
 pub data-request-spec : {M : Type 1} → statement M

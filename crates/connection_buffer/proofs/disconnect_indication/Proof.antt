@@ -1,7 +1,7 @@
 -- `connection_buffer::disconnect_indication` meets its contract.
 -- Assumes nothing.
 use lib.Dec.{lit≤}
-use Rattle.table.specs.Steps.{disconnectIndication}
+use Rattle.table.specs.Steps.{disconnect_indication}
 use Rattle.connection_buffer.proofs.TellLaws.{told-short, tells}
 use borrow.Author.Rules.{rules}
 use Rattle.connection_buffer.proofs.disconnect_indication.Statement.{statement}
@@ -18,7 +18,7 @@ tell-requires c κs =
     let step = c.before.before.before.before in
     let load = step.before.before in
     let a = load.before.before.before.before.args in
-    told-short (disconnectIndication a.reason a.unit.now) a.connection.now a.out.now load.load.result load.load.ensures step.disconnected.ensures (lit≤ tt)
+    told-short (disconnect_indication a.reason a.unit.now) a.connection.now a.out.now load.load.result load.load.ensures step.disconnected.ensures (lit≤ tt)
 
 same_length : tie.Need-same-length
 same_length c = search rules
@@ -28,7 +28,7 @@ returns c =
     let step = c.before.before.before.before.before in
     let load = step.before.before in
     let a = load.before.before.before.before.args in
-    tells (disconnectIndication a.reason a.unit.now) a.connection.now a.out.now load.load.result load.load.ensures step.disconnected.ensures
+    tells (disconnect_indication a.reason a.unit.now) a.connection.now a.out.now load.load.result load.load.ensures step.disconnected.ensures
     c.tell.result c.tell.new.1.0 a.events.now c.tell.new.1.1.0 (record { sfits = c.tell.type-inv }) c.tell.ensures.0 c.tell.ensures.1.0 c.tell.ensures.1.1
 
 pub disconnect-indication-spec : {M : Type 1} → statement M

@@ -3,8 +3,8 @@
 use mathlib.Core.Path.{sym, ap, ◌∙◌}
 use Prim.Native.Nat.{◌<◌, ◌^◌}
 use Rattle.refusal.proofs.CodeLaws.{told-given, told-refused}
-use Rattle.table.specs.Steps.{Answered, steppedAs}
-use Rattle.connection_buffer.specs.ConnectionBuffer.{unitLength, connectionAfter, eventsAfter}
+use Rattle.table.specs.Steps.{Answered, stepped_as}
+use Rattle.connection_buffer.specs.ConnectionBuffer.{unit_length, connection_after, events_after}
 use borrow.Author.Rules.{rules}
 use Rattle.connection_buffer.proofs.tell.Statement.{statement}
 use Rattle.connection_buffer.proofs.tell.Tie as tie
@@ -14,7 +14,7 @@ short k =
     let bytes = k.before in
     let given = bytes.before.before.answer.given in
     let start = bytes.before.before.before.before.before in
-    start.requires.by given.0.0 (ap steppedAs given.1)
+    start.requires.by given.0.0 (ap stepped_as given.1)
 
 enum-known-answer : tie.Need-enum-known-answer
 enum-known-answer c = search rules
@@ -41,12 +41,12 @@ returns c =
     let bytes = events.before in
     let given = bytes.before.before.answer.given in
     let start = bytes.before.before.before.before.before in
-    let e = sym (ap steppedAs given.1) in
+    let e = sym (ap stepped_as given.1) in
     let taken = start.args.taken in (
-      told-given given.0.0.written (short events) (ap unitLength e),
+      told-given given.0.0.written (short events) (ap unit_length e),
       (
-        bytes.bytes_of.ensures ∙ ap (λ (x : Answered). connectionAfter x taken.connection start.args.connection.now) e,
-        events.events-of.ensures ∙ ap (λ (x : Answered). eventsAfter x taken.connection start.args.events.now) e,
+        bytes.bytes_of.ensures ∙ ap (λ (x : Answered). connection_after x taken.connection start.args.connection.now) e,
+        events.events-of.ensures ∙ ap (λ (x : Answered). events_after x taken.connection start.args.events.now) e,
       ),
     )
 
@@ -54,12 +54,12 @@ returns-2 : tie.Need-returns-2
 returns-2 c =
     let given = c.before.before.answer2.given in
     let start = c.before.before.before.before.before in
-    let e = sym (ap steppedAs given.1) in
+    let e = sym (ap stepped_as given.1) in
     let taken = start.args.taken in (
-      told-refused given.0.0 c.refusal-code.result c.refusal-code.ensures (ap unitLength e),
+      told-refused given.0.0 c.refusal-code.result c.refusal-code.ensures (ap unit_length e),
       (
-        ap (λ (x : Answered). connectionAfter x taken.connection start.args.connection.now) e,
-        ap (λ (x : Answered). eventsAfter x taken.connection start.args.events.now) e,
+        ap (λ (x : Answered). connection_after x taken.connection start.args.connection.now) e,
+        ap (λ (x : Answered). events_after x taken.connection start.args.events.now) e,
       ),
     )
 

@@ -1,8 +1,8 @@
 -- `connection_buffer::unit_indication` meets its contract.
 -- Assumes nothing.
 use lib.Dec.{lit≤}
-use Rattle.table.specs.Steps.{unitIndication}
-use Rattle.table.specs.Steps.{kindNumbered}
+use Rattle.table.specs.Steps.{unit_indication}
+use Rattle.table.specs.Steps.{kind_numbered}
 use Rattle.connection_buffer.proofs.TellLaws.{named, told-short, tells}
 use borrow.Author.Rules.{rules}
 use Rattle.connection_buffer.proofs.unit_indication.Statement.{statement}
@@ -23,7 +23,7 @@ tell-requires c κs =
     let kind = step.before.before in
     let load = kind.before in
     let a = load.before.before.before.before.args in
-    told-short (unitIndication (kindNumbered a.kind) a.unit.now) a.connection.now a.out.now load.load.result load.load.ensures (named a.kind a.unit.now a.out.now load.load.result kind.kind-numbered.ensures step.unit.ensures) (lit≤ tt)
+    told-short (unit_indication (kind_numbered a.kind) a.unit.now) a.connection.now a.out.now load.load.result load.load.ensures (named a.kind a.unit.now a.out.now load.load.result kind.kind-numbered.ensures step.unit.ensures) (lit≤ tt)
 
 same_length : tie.Need-same-length
 same_length c = search rules
@@ -34,7 +34,7 @@ returns c =
     let kind = step.before.before in
     let load = kind.before in
     let a = load.before.before.before.before.args in
-    tells (unitIndication (kindNumbered a.kind) a.unit.now) a.connection.now a.out.now load.load.result load.load.ensures (named a.kind a.unit.now a.out.now load.load.result kind.kind-numbered.ensures step.unit.ensures)
+    tells (unit_indication (kind_numbered a.kind) a.unit.now) a.connection.now a.out.now load.load.result load.load.ensures (named a.kind a.unit.now a.out.now load.load.result kind.kind-numbered.ensures step.unit.ensures)
     c.tell.result c.tell.new.1.0 a.events.now c.tell.new.1.1.0 (record { sfits = c.tell.type-inv }) c.tell.ensures.0 c.tell.ensures.1.0 c.tell.ensures.1.1
 
 pub unit-indication-spec : {M : Type 1} → statement M

@@ -7,11 +7,11 @@ use native.Mathlib.Omega.{arith}
 use lib.ListN.{length}
 use lib.Dec.{eqb}
 use borrow.Author.Tests.{eqb-true}
-use Rattle.octets.proofs.BoolLaws.{test-holds, test-fails}
+use Rattle.octets.proofs.BoolLaws.{test-holds, test_fails}
 use Rattle.store.specs.Layout.{total}
 use Rattle.store.specs.Store.{sound}
 use Rattle.store.proofs.SoundLaws.{sound-says}
-use Rattle.convert.proofs.ConvertLaws.{counts-decide, wrong-source, wrong_target, unsound, no_room, done}
+use Rattle.convert.proofs.ConvertLaws.{counts_decide, wrong_source, wrong_target, unsound, no_room, done}
 use borrow.Author.Rules.{rules}
 use Rattle.convert.proofs.convert.Statement.{statement}
 use Rattle.convert.proofs.convert.Tie as tie
@@ -31,7 +31,7 @@ passed four =
     let one = if1.before in (
       test-holds one.has-length.result one.has-length.ensures if1.if1.false,
       test-holds two.has-length2.result two.has-length2.ensures if2.if2.false,
-      test-holds three.is-sound.result three.is-sound.ensures if3.if3.false,
+      test-holds three.is_sound_lem.result three.is_sound_lem.ensures if3.if3.false,
     )
 
 has-length-requires : tie.Need-has-length-requires
@@ -41,7 +41,7 @@ returns : tie.Need-returns
 returns c =
     let one = c.before in
     let a = one.before.before.before.args in
-    wrong-source a.source a.target a.from.now a.to.now (test-fails one.has-length.result one.has-length.ensures c.if1.true)
+    wrong_source a.source a.target a.from.now a.to.now (test_fails one.has-length.result one.has-length.ensures c.if1.true)
 
 has-length-requires-2 : tie.Need-has-length-requires-2
 has-length-requires-2 c κs = search rules
@@ -56,7 +56,7 @@ returns-2 c =
     let one = if1.before in
     let a = one.before.before.before.args in
     let p = test-holds one.has-length.result one.has-length.ensures if1.if1.false in
-    wrong_target a.source a.target a.from.now a.to.now p (test-fails two.has-length2.result two.has-length2.ensures c.if2.true)
+    wrong_target a.source a.target a.from.now a.to.now p (test_fails two.has-length2.result two.has-length2.ensures c.if2.true)
 
 is-sound-requires : tie.Need-is-sound-requires
 is-sound-requires c κs = search rules
@@ -74,7 +74,7 @@ returns-3 c =
     let a = one.before.before.before.args in
     let p = test-holds one.has-length.result one.has-length.ensures if1.if1.false in
     let q = test-holds two.has-length2.result two.has-length2.ensures if2.if2.false in
-    unsound a.source a.target a.from.now a.to.now p q (test-fails three.is-sound.result three.is-sound.ensures c.if3.true)
+    unsound a.source a.target a.from.now a.to.now p q (test_fails three.is_sound_lem.result three.is_sound_lem.ensures c.if3.true)
 
 counts-ok-requires : tie.Need-counts-ok-requires
 counts-ok-requires c κs =
@@ -82,7 +82,7 @@ counts-ok-requires c κs =
     let two = three.before.before in
     let one = two.before.before.before in
     let a = one.before.before.before.args in
-    let w = sound-says a.source a.from.now (test-holds three.is-sound.result three.is-sound.ensures c.if3.false) in
+    let w = sound-says a.source a.from.now (test-holds three.is_sound_lem.result three.is_sound_lem.ensures c.if3.false) in
     omega (arith, w.size)
 
 same-length-3 : tie.Need-same-length-3
@@ -95,8 +95,8 @@ returns-4 c =
     let one = two.before.before.before in
     let a = one.before.before.before.args in
     let t = passed four in
-    let full = test-fails four.counts-ok.result four.counts-ok.ensures c.if4.true in
-    no_room a.source a.target a.from.now a.to.now t.0 t.1 t.2 (sym (counts-decide a.source a.target a.from.now t.2) ∙ full)
+    let full = test_fails four.counts-ok.result four.counts-ok.ensures c.if4.true in
+    no_room a.source a.target a.from.now a.to.now t.0 t.1 t.2 (sym (counts_decide a.source a.target a.from.now t.2) ∙ full)
 
 write-requires : tie.Need-write-requires
 write-requires c κs =
@@ -107,7 +107,7 @@ write-requires c κs =
     let a = start.args in
     let t = passed four in
     let room = test-holds four.counts-ok.result four.counts-ok.ensures c.before.if4.false in
-    ((start.requires.0, start.requires.1, eqb-true (length a.to.now) (total a.target) t.1), (t.2, sym (counts-decide a.source a.target a.from.now t.2) ∙ room))
+    ((start.requires.0, start.requires.1, eqb-true (length a.to.now) (total a.target) t.1), (t.2, sym (counts_decide a.source a.target a.from.now t.2) ∙ room))
 
 same-length-4 : tie.Need-same-length-4
 same-length-4 c = search rules
@@ -122,7 +122,7 @@ returns-5 c =
     let a = one.before.before.before.args in
     let t = passed four in
     let room = test-holds four.counts-ok.result four.counts-ok.ensures if4.if4.false in
-    done a.source a.target a.from.now a.to.now t.0 t.1 t.2 (sym (counts-decide a.source a.target a.from.now t.2) ∙ room) written.write.new.1.1.0 written.write.ensures
+    done a.source a.target a.from.now a.to.now t.0 t.1 t.2 (sym (counts_decide a.source a.target a.from.now t.2) ∙ room) written.write.new.1.1.0 written.write.ensures
 
 pub convert-spec : {M : Type 1} → statement M
 convert-spec =

@@ -7,7 +7,7 @@ use lib.ListN.{length}
 use Rattle.store.specs.Layout.{total}
 use Rattle.store.specs.Store.{entries}
 use Rattle.store.proofs.SoundLaws.{sound-says}
-use Rattle.convert.proofs.ConvertLaws.{room_says, records-lie, peers-lie, copied}
+use Rattle.convert.proofs.ConvertLaws.{room_says, records_lie, peers_lie, copied}
 use borrow.Author.Rules.{rules}
 use Rattle.convert.proofs.write.Statement.{statement}
 use Rattle.convert.proofs.write.Tie as tie
@@ -69,7 +69,7 @@ copy-requires c κs =
     let n = m.before in
     let start = n.before.before.before in
     let a = start.args in
-    let l = records-lie a.source a.target a.from.now put2.put-number2.new.0 start.pre.1.0 start.pre.1.1 (long put2) n.number_at.result n.number_at.ensures.0 in
+    let l = records_lie a.source a.target a.from.now put2.put-number2.new.0 start.pre.1.0 start.pre.1.1 (long put2) n.number_at.result n.number_at.ensures.0 in
     (omega (arith, l.0), omega (arith, l.1))
 
 mul-copy-2 : tie.Need-overflow-mul-copy-2
@@ -83,7 +83,7 @@ copy-requires-2 c κs =
     let n = m.before in
     let start = n.before.before.before in
     let a = start.args in
-    let l = peers-lie a.source a.target a.from.now copy.copy.new.0 start.pre.1.0 start.pre.1.1 (copy.copy.auto.0 ∙ long put2) m.number-at2.result m.number-at2.ensures.0 in
+    let l = peers_lie a.source a.target a.from.now copy.copy.new.0 start.pre.1.0 start.pre.1.1 (copy.copy.auto.0 ∙ long put2) m.number-at2.result m.number-at2.ensures.0 in
     (omega (arith, l.0), omega (arith, l.1))
 
 same_length : tie.Need-same-length

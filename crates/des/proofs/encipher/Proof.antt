@@ -3,8 +3,8 @@
 use mathlib.Core.Path.{ap, ◌∙◌, subst}
 use mathlib.Core.List.{List}
 use Prim.Native.Nat.{ℕ}
-use Rattle.des.specs.Bits.{bitsOfBytes, bytesOfBits}
-use Rattle.des.specs.Des.{encipherBits, desEncipher}
+use Rattle.des.specs.Bits.{bits_of_bytes, bytes_of_bits}
+use Rattle.des.specs.Des.{encipher_bits, des_encipher}
 use Rattle.des.specs.Words.{Keys}
 use Rattle.des.proofs.KeyLaws.{enciphers}
 use borrow.Author.Rules.{rules}
@@ -27,14 +27,14 @@ store-requires : tie.Need-store-requires
 store-requires c κs = search rules
 
 returns : tie.Need-returns
-unfolding desEncipher
+unfolding des_encipher
 returns c =
     let p = c.before.before.before in
     let a = p.before.before.args in
-    let key = bitsOfBytes a.key in
+    let key = bits_of_bytes a.key in
     let keys : Keys key p.schedule.result = subst (λ (l : List ℕ). Keys l p.schedule.result) p.before.load.ensures p.schedule.ensures in
     c.store.ensures
-    ∙ ap (bytesOfBits 8) (c.before.encipher-word.ensures ∙ enciphers key p.schedule.result _ keys ∙ ap (encipherBits key) c.before.before.load2.ensures)
+    ∙ ap (bytes_of_bits 8) (c.before.encipher-word.ensures ∙ enciphers key p.schedule.result _ keys ∙ ap (encipher_bits key) c.before.before.load2.ensures)
 
 pub encipher-spec : {M : Type 1} → statement M
 encipher-spec =

@@ -3,7 +3,7 @@
 use mathlib.Core.Path.{ap, ◌∙◌}
 use native.Mathlib.Omega.{arith}
 use Rattle.octets.proofs.PartLaws.{part-whole}
-use Rattle.des.specs.Bits.{bits, bitsOfBytes}
+use Rattle.des.specs.Bits.{bits, bits_of_bytes}
 use Rattle.des.proofs.ByteLaws.{bits-number}
 use lib.ListN.{length}
 use mathlib.Core.Path.{◌≡◌}
@@ -22,7 +22,7 @@ returns c =
     let start = c.before.before in
     let b = start.args.t1 in
     let eight : length b ≡ 8 = start.well-formed.0.1.0.1 in
-    ap (bits 64) c.get64-at.ensures ∙ bits-number 8 b 0 (omega arith) ∙ ap bitsOfBytes (part-whole b 8 eight)
+    ap (bits 64) c.get64-at.ensures ∙ bits-number 8 b 0 (omega arith) ∙ ap bits_of_bytes (part-whole b 8 eight)
 
 pub load_spec : {M : Type 1} → statement M
 load_spec = tie.close (tie.spec slice-aggregate-get64-at get64-at-requires returns)

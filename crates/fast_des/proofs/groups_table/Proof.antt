@@ -1,15 +1,15 @@
 -- `fast_des::groups_table` meets its contract: the table is what its rule makes, entry by entry.
 -- Assumes nothing.
 use mathlib.Core.Path.{refl}
-use Rattle.des.specs.Bits.{bits, value, valueFrom}
+use Rattle.des.specs.Bits.{bits, value, value_from}
 use Rattle.des.specs.Tables.{pc2}
 use Rattle.des.specs.Des.{permute}
-use Rattle.fast_des.specs.Joined.{zeros, placed, pc2Entry, pc2Groups}
+use Rattle.fast_des.specs.Joined.{zeros, placed, pc2_entry, pc2_groups}
 use Rattle.fast_des.proofs.groups_table.Statement.{statement}
 use Rattle.fast_des.proofs.groups_table.Tie as tie
 
 returns : tie.Need-returns
-unfolding pc2Groups pc2Entry pc2 placed zeros permute bits value valueFrom
+unfolding pc2_groups pc2_entry pc2 placed zeros permute bits value value_from
 returns c = refl
 
 pub groups-table-spec : {M : Type 1} → statement M

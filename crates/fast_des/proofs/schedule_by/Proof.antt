@@ -5,9 +5,9 @@ use mathlib.Core.List.{[], ◌∷◌}
 use borrow.Author.Count.{below_none, below_more}
 use Rattle.des.specs.Bits.{bits}
 use Rattle.des.specs.Tables.{pc1, shifts}
-use Rattle.des.specs.Des.{permute, swap, shiftBoth}
+use Rattle.des.specs.Des.{permute, swap, shift_both}
 use Rattle.fast_des.proofs.LinearLaws.{along}
-use Rattle.fast_des.proofs.ChoiceLaws.{shiftsBefore, key-along}
+use Rattle.fast_des.proofs.ChoiceLaws.{shifts_before, key-along}
 use Rattle.fast_des.proofs.schedule_by.Statement.{statement}
 use Rattle.fast_des.proofs.schedule_by.Tie as tie
 
@@ -36,7 +36,7 @@ choices-requires-4 : tie.Need-choices-requires-4
 choices-requires-4 c κs = c.before.before.before.before.before.before.before.before.requires
 
 returns : tie.Need-returns
-unfolding along shiftsBefore shifts swap shiftBoth
+unfolding along shifts_before shifts swap shift_both
 returns c =
     let third = c.before.before in
     let second = third.before in
@@ -45,11 +45,11 @@ returns c =
     let one = turned.before in
     let key = bits 64 one.before.before.args.key in
     let start : bits 56 one.choice1.result ≡ permute pc1 key = one.choice1.ensures.same in
-    let later : bits 56 turned.shift-15.result ≡ along (15 ∷ []) (permute pc1 key) = turned.shift-15.ensures.same ∙ ap (shiftBoth 15) start in
+    let later : bits 56 turned.shift-15.result ≡ along (15 ∷ []) (permute pc1 key) = turned.shift-15.ensures.same ∙ ap (shift_both 15) start in
     let from-0 = key-along key [] one.choice1.result start in
-    let from-2 = key-along key (2 ∷ []) second.before.shift-2.result (second.before.shift-2.ensures.same ∙ ap (shiftBoth 2) start) in
+    let from-2 = key-along key (2 ∷ []) second.before.shift-2.result (second.before.shift-2.ensures.same ∙ ap (shift_both 2) start) in
     let from-15 = key-along key (15 ∷ []) turned.shift-15.result later in
-    let from-17 = key-along key (2 ∷ 15 ∷ []) c.before.shift-22.result (c.before.shift-22.ensures.same ∙ ap (shiftBoth 2) later) in
+    let from-17 = key-along key (2 ∷ 15 ∷ []) c.before.shift-22.result (c.before.shift-22.ensures.same ∙ ap (shift_both 2) later) in
     let of-0 = first.choices.ensures in
     let of-2 = second.choices2.ensures in
     let of-15 = third.choices3.ensures in

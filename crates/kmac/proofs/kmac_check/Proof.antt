@@ -4,8 +4,8 @@ use mathlib.Core.Path.{sym, ap, ◌∙◌}
 use Prim.Native.Nat.{◌<◌, ◌^◌}
 use Rattle.octets.specs.Bytes.{nonzero}
 use Rattle.refusal.proofs.CodeLaws.{told-given, told-refused}
-use Rattle.authentication.specs.Unit.{checkedAs}
-use Rattle.kmac.proofs.CodeLaws.{data-small}
+use Rattle.authentication.specs.Unit.{checked_as}
+use Rattle.kmac.proofs.CodeLaws.{data_small}
 use borrow.Author.Rules.{rules}
 use Rattle.kmac.proofs.kmac_check.Statement.{statement}
 use Rattle.kmac.proofs.kmac_check.Tie as tie
@@ -14,7 +14,7 @@ small : (k : tie.After-known-told) → k.before.n.given.0.0 < 2 ^ 31
 small k =
     let check = k.before.before.before in
     let a = check.before.before.before.before.args in
-    data-small a.unit.now a.key.now a.destination.now (nonzero a.direction) k.before.n.given.0.0 (sym check.check.ensures ∙ ap checkedAs k.before.n.given.1)
+    data_small a.unit.now a.key.now a.destination.now (nonzero a.direction) k.before.n.given.0.0 (sym check.check.ensures ∙ ap checked_as k.before.n.given.1)
 
 check-requires : tie.Need-check-requires
 check-requires c κs = search rules
@@ -35,13 +35,13 @@ refusal-code-requires c κs = search rules
 returns : tie.Need-returns
 returns c =
     let check = c.before.before.before in
-    told-given c.before.n.given.0.0 (small c) (sym (ap checkedAs c.before.n.given.1) ∙ check.check.ensures)
+    told-given c.before.n.given.0.0 (small c) (sym (ap checked_as c.before.n.given.1) ∙ check.check.ensures)
 
 returns-2 : tie.Need-returns-2
 returns-2 c =
     let h = c.before.before.h.given in
     let check = c.before.before.before.before in
-    told-refused h.0.0 c.refusal-code.result c.refusal-code.ensures (sym (ap checkedAs h.1) ∙ check.check.ensures)
+    told-refused h.0.0 c.refusal-code.result c.refusal-code.ensures (sym (ap checked_as h.1) ∙ check.check.ensures)
 
 pub kmac-check-spec : {M : Type 1} → statement M
 kmac-check-spec =

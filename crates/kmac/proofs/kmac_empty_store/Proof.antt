@@ -3,7 +3,7 @@
 use mathlib.Core.Path.{sym, ap, ◌∙◌}
 use Rattle.refusal.specs.Code.{code}
 use Rattle.refusal.proofs.CodeLaws.{told-refused}
-use Rattle.store.specs.Search.{emptiedAs}
+use Rattle.store.specs.Search.{emptied_as}
 use borrow.Author.Rules.{rules}
 use Rattle.kmac.proofs.kmac_empty_store.Statement.{statement}
 use Rattle.kmac.proofs.kmac_empty_store.Tie as tie
@@ -26,7 +26,7 @@ same_length c = search rules
 returns : tie.Need-returns
 returns c =
     let empty = c.before.before.before.before in
-    (ap code (sym (ap emptiedAs c.enum_told.given.1) ∙ empty.empty.ensures.0), empty.empty.ensures.1)
+    (ap code (sym (ap emptied_as c.enum_told.given.1) ∙ empty.empty.ensures.0), empty.empty.ensures.1)
 
 same-length-2 : tie.Need-same-length-2
 same-length-2 c = search rules
@@ -36,7 +36,7 @@ returns-2 c =
     let h = c.before.before.h.given in
     let told = c.before.before in
     let empty = told.before.before.before.before in
-    (told-refused h.0.0 c.refusal-code.result c.refusal-code.ensures (sym (ap emptiedAs h.1) ∙ empty.empty.ensures.0), empty.empty.ensures.1)
+    (told-refused h.0.0 c.refusal-code.result c.refusal-code.ensures (sym (ap emptied_as h.1) ∙ empty.empty.ensures.0), empty.empty.ensures.1)
 
 pub kmac-empty-store-spec : {M : Type 1} → statement M
 kmac-empty-store-spec =

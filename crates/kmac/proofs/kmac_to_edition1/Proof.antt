@@ -17,7 +17,7 @@ same_length c = search rules
 returns : tie.Need-returns
 returns c =
     let made = c.before.before.before in
-    (told-converted made.to-edition1.result c.told-conversion.result c.told-conversion.ensures made.to-edition1.ensures.answer, made.to-edition1.ensures.target)
+    (told-converted made.to_edition1.result c.told-conversion.result c.told-conversion.ensures made.to_edition1.ensures.answer, made.to_edition1.ensures.target)
 
 pub kmac-to-edition1-spec : {M : Type 1} → statement M
 kmac-to-edition1-spec = tie.close (tie.spec to-edition1-requires told-conversion-requires same_length returns)

@@ -17,7 +17,7 @@ same_length c = search rules
 returns : tie.Need-returns
 returns c =
     let made = c.before.before.before in
-    (told-converted made.to-edition2.result c.told-conversion.result c.told-conversion.ensures made.to-edition2.ensures.answer, made.to-edition2.ensures.target)
+    (told-converted made.to_edition2.result c.told-conversion.result c.told-conversion.ensures made.to_edition2.ensures.answer, made.to_edition2.ensures.target)
 
 pub kmac-to-edition2-spec : {M : Type 1} → statement M
 kmac-to-edition2-spec = tie.close (tie.spec to-edition2-requires told-conversion-requires same_length returns)

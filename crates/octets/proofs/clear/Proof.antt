@@ -4,7 +4,7 @@ use mathlib.Core.Path.{◌≡◌, refl, sym, ap, ◌∙◌}
 use Prim.Native.Nat.{ℕ, ◌-◌, ◌≤◌}
 use lib.ListN.{length, length-set, replicate}
 use Rattle.octets.specs.Bytes.{splice}
-use Rattle.octets.proofs.SpliceLaws.{splice-none, clear-turn}
+use Rattle.octets.proofs.SpliceLaws.{splice-none, clear_turn}
 use native.Mathlib.Omega.{arith}
 use Rattle.octets.proofs.clear.Statement.{statement}
 use Rattle.octets.proofs.clear.Tie as tie
@@ -35,7 +35,7 @@ loop-again c =
     let l = c.before in
     let a = l.before.args in (
       omega arith,
-      (simp length-set l.loop.invariant.1.0, clear-turn a.s.now a.i l.loop.k l.loop.s (omega arith) l.loop.invariant.1.1),
+      (simp length-set l.loop.invariant.1.0, clear_turn a.s.now a.i l.loop.k l.loop.s (omega arith) l.loop.invariant.1.1),
     )
 
 same_length : tie.Need-same-length invariant-loop decreases-loop

@@ -4,7 +4,7 @@ use mathlib.Core.Path.{◌≡◌, refl, sym, ap, ◌∙◌}
 use Prim.Native.Nat.{ℕ, ◌-◌, ◌≤◌}
 use lib.ListN.{length, length-set}
 use Rattle.octets.specs.Bytes.{part, splice}
-use Rattle.octets.proofs.SpliceLaws.{splice-none, copy-turn}
+use Rattle.octets.proofs.SpliceLaws.{splice-none, copy_turn}
 use native.Mathlib.Omega.{arith}
 use Rattle.octets.proofs.copy.Statement.{statement}
 use Rattle.octets.proofs.copy.Tie as tie
@@ -42,7 +42,7 @@ loop-again c =
     let l = c.before.before in
     let a = l.before.args in (
       omega arith,
-      (simp length-set l.loop.invariant.1.0, copy-turn a.s.now a.i a.src.now a.at l.loop.k l.loop.s (omega arith) (omega arith) l.loop.invariant.1.1),
+      (simp length-set l.loop.invariant.1.0, copy_turn a.s.now a.i a.src.now a.at l.loop.k l.loop.s (omega arith) (omega arith) l.loop.invariant.1.1),
     )
 
 same_length : tie.Need-same-length invariant-loop decreases-loop

@@ -7,13 +7,13 @@ use mathlib.Core.Logic.{⊎_elim}
 use Prim.Native.Nat.{ℕ, ◌+◌, ◌-◌, ◌≤◌}
 use native.Mathlib.Nat.{add-zero, sub-zero}
 use native.Mathlib.Omega.{arith}
-use Rattle.octets.specs.Bytes.{part, allZero}
-use Rattle.octets.proofs.PartLaws.{allZero-turn, allZero-fails, allZero-end}
+use Rattle.octets.specs.Bytes.{part, all_zero}
+use Rattle.octets.proofs.PartLaws.{all_zero_turn, all_zero_fails, all_zero-end}
 use Rattle.octets.proofs.is_clear.Statement.{statement}
 use Rattle.octets.proofs.is_clear.Tie as tie
 
 abbrev invariant-loop : tie.invariant-loop
-invariant-loop s i n clear₀ k₀ clear k = (k ≤ n) × (allZero (part s i n) ≡ clear && allZero (part s (i + k) (n - k)))
+invariant-loop s i n clear₀ k₀ clear k = (k ≤ n) × (all_zero (part s i n) ≡ clear && all_zero (part s (i + k) (n - k)))
 
 abbrev decreases-loop : tie.decreases-loop
 decreases-loop s i n clear₀ k₀ clear k = n - k
@@ -43,8 +43,8 @@ loop-again c =
       omega arith,
       l.loop.invariant.1
           ∙ ⊎_elim
-          (λ w. ap (λ (b : Bool). l.loop.clear && b) (allZero-fails s a.i a.n k (omega arith) l.before.requires w.0.taken) ∙ and-false l.loop.clear ∙ sym (ap (λ (b : Bool). b && allZero more) w.1))
-          (λ w. ap (λ (b : Bool). l.loop.clear && b) (allZero-turn s a.i a.n k (omega arith) l.before.requires w.0.left) ∙ sym (ap (λ (b : Bool). b && allZero more) w.1))
+          (λ w. ap (λ (b : Bool). l.loop.clear && b) (all_zero_fails s a.i a.n k (omega arith) l.before.requires w.0.taken) ∙ and-false l.loop.clear ∙ sym (ap (λ (b : Bool). b && all_zero more) w.1))
+          (λ w. ap (λ (b : Bool). l.loop.clear && b) (all_zero_turn s a.i a.n k (omega arith) l.before.requires w.0.left) ∙ sym (ap (λ (b : Bool). b && all_zero more) w.1))
           c.if1.branch,
     )
 
@@ -52,7 +52,7 @@ returns : tie.Need-returns invariant-loop decreases-loop
 returns c =
     let l = c.before in
     let a = l.before.args in
-    sym (l.loop.invariant.1 ∙ ap (λ (b : Bool). l.loop.clear && b) (allZero-end a.s.now a.i a.n l.loop.k (omega arith)) ∙ and-true l.loop.clear)
+    sym (l.loop.invariant.1 ∙ ap (λ (b : Bool). l.loop.clear && b) (all_zero-end a.s.now a.i a.n l.loop.k (omega arith)) ∙ and-true l.loop.clear)
 
 pub is-clear-spec : {M : Type 1} → statement M
 is-clear-spec =

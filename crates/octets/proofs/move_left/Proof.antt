@@ -4,7 +4,7 @@ use mathlib.Core.Path.{◌≡◌, refl, sym, ap, ◌∙◌}
 use Prim.Native.Nat.{ℕ, ◌+◌, ◌-◌, ◌≤◌}
 use lib.ListN.{length, length-set}
 use Rattle.octets.specs.Bytes.{part, splice}
-use Rattle.octets.proofs.SpliceLaws.{splice-none, move-turn}
+use Rattle.octets.proofs.SpliceLaws.{splice-none, move_turn}
 use native.Mathlib.Omega.{arith}
 use Rattle.octets.proofs.move_left.Statement.{statement}
 use Rattle.octets.proofs.move_left.Tie as tie
@@ -45,7 +45,7 @@ loop-again c =
     let l = c.before.before in
     let a = l.before.args in (
       omega arith,
-      (simp length-set l.loop.invariant.1.0, move-turn a.s.now a.i a.gap l.loop.k l.loop.s (omega arith) l.loop.invariant.1.1),
+      (simp length-set l.loop.invariant.1.0, move_turn a.s.now a.i a.gap l.loop.k l.loop.s (omega arith) l.loop.invariant.1.1),
     )
 
 same_length : tie.Need-same-length invariant-loop decreases-loop

@@ -5,7 +5,7 @@ use Prim.Native.Nat.{ℕ, ◌+◌, ◌-◌, ◌≤◌}
 use native.Mathlib.Nat.{add-zero, sub-zero}
 use lib.ListN.{length, length-set}
 use Rattle.octets.specs.Bytes.{part, splice, opened}
-use Rattle.octets.proofs.SpliceLaws.{open_turn, open-start}
+use Rattle.octets.proofs.SpliceLaws.{open_turn, open_start}
 use native.Mathlib.Omega.{arith}
 use Rattle.octets.proofs.open_gap.Statement.{statement}
 use Rattle.octets.proofs.open_gap.Tie as tie
@@ -17,7 +17,7 @@ abbrev decreases-loop : tie.decreases-loop
 decreases-loop s₀ i gap n k₀ s k = k
 
 loop-holds : tie.Need-loop-init invariant-loop decreases-loop
-loop-holds c = (omega arith, (refl, open-start c.args.s.now c.args.i c.args.gap c.args.n))
+loop-holds c = (omega arith, (refl, open_start c.args.s.now c.args.i c.args.gap c.args.n))
 
 sub-k : tie.Need-overflow-sub-k invariant-loop decreases-loop
 sub-k c = omega arith

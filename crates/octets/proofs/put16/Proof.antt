@@ -4,7 +4,7 @@ use mathlib.Core.Path.{refl, ap, ◌∙◌}
 use mathlib.Core.List.{List, [], ◌∷◌}
 use Prim.Native.Nat.{ℕ, ◌+◌, ◌-◌, ◌/◌, ◌%◌}
 use lib.ListN.{set, length-set}
-use Rattle.octets.proofs.SpliceLaws.{set-splice, splice-snoc}
+use Rattle.octets.proofs.SpliceLaws.{set-splice, splice_snoc}
 use borrow.Author.Rules.{rules}
 use native.Mathlib.Omega.{arith}
 use Rattle.octets.proofs.put16.Statement.{statement}
@@ -33,7 +33,7 @@ returns c =
     let a = c.args in
     let s = a.s.now in
     ap (λ (x : List ℕ). set x (a.i + 1) (a.v % 256)) (set-splice s a.i (a.v / 256 % 256) (omega arith))
-    ∙ splice-snoc s a.i (a.v / 256 % 256 ∷ []) 1 (a.v % 256) refl (omega arith)
+    ∙ splice_snoc s a.i (a.v / 256 % 256 ∷ []) 1 (a.v % 256) refl (omega arith)
 
 pub put16-spec : {M : Type 1} → statement M
 put16-spec =

@@ -4,7 +4,7 @@ use mathlib.Core.Path.{refl, ap, ◌∙◌}
 use mathlib.Core.List.{List, [], ◌∷◌}
 use Prim.Native.Nat.{ℕ, ◌+◌, ◌-◌, ◌/◌, ◌%◌}
 use lib.ListN.{set, length-set}
-use Rattle.octets.proofs.SpliceLaws.{set-splice, splice-snoc}
+use Rattle.octets.proofs.SpliceLaws.{set-splice, splice_snoc}
 use borrow.Author.Rules.{rules}
 use native.Mathlib.Omega.{arith}
 use Rattle.octets.proofs.put32.Statement.{statement}
@@ -56,9 +56,9 @@ returns c =
     let x2 : ℕ = a.v / 256 % 256 in
     let x3 : ℕ = a.v % 256 in
     ap (λ (l : List ℕ). set (set (set l (i + 1) x1) (i + 2) x2) (i + 3) x3) (set-splice s i x0 (omega arith))
-    ∙ ap (λ (l : List ℕ). set (set l (i + 2) x2) (i + 3) x3) (splice-snoc s i (x0 ∷ []) 1 x1 refl (omega arith))
-    ∙ ap (λ (l : List ℕ). set l (i + 3) x3) (splice-snoc s i (x0 ∷ x1 ∷ []) 2 x2 refl (omega arith))
-    ∙ splice-snoc s i (x0 ∷ x1 ∷ x2 ∷ []) 3 x3 refl (omega arith)
+    ∙ ap (λ (l : List ℕ). set (set l (i + 2) x2) (i + 3) x3) (splice_snoc s i (x0 ∷ []) 1 x1 refl (omega arith))
+    ∙ ap (λ (l : List ℕ). set l (i + 3) x3) (splice_snoc s i (x0 ∷ x1 ∷ []) 2 x2 refl (omega arith))
+    ∙ splice_snoc s i (x0 ∷ x1 ∷ x2 ∷ []) 3 x3 refl (omega arith)
 
 pub put32-spec : {M : Type 1} → statement M
 put32-spec =

@@ -5,7 +5,7 @@ use Prim.Native.Nat.{ℕ, ◌-◌, ◌*◌, ◌/◌, ◌^◌, ◌≤◌}
 use native.Mathlib.Nat.{div-one}
 use lib.ListN.{length, length-set}
 use Rattle.octets.specs.Bytes.{bytes, splice}
-use Rattle.octets.proofs.SpliceLaws.{splice-none, put64-turn}
+use Rattle.octets.proofs.SpliceLaws.{splice-none, put64_turn}
 use native.Mathlib.Omega.{arith}
 use Rattle.octets.proofs.put64.Statement.{statement}
 use Rattle.octets.proofs.put64.Tie as tie
@@ -49,7 +49,7 @@ loop-again c =
     let l = c.before in
     let a = l.before.args in (
       omega arith,
-      (simp length-set l.loop.invariant.1.0, put64-turn a.s.now a.i a.v l.loop.k l.loop.s (omega arith) c.loop-test.true l.loop.invariant.1.1),
+      (simp length-set l.loop.invariant.1.0, put64_turn a.s.now a.i a.v l.loop.k l.loop.s (omega arith) c.loop-test.true l.loop.invariant.1.1),
     )
 
 same_length : tie.Need-same-length invariant-loop decreases-loop

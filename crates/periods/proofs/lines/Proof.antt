@@ -4,17 +4,17 @@ use mathlib.Core.Bool.{true}
 use mathlib.Core.Path.{◌≡◌}
 use Prim.Native.Nat.{◌-◌, ◌≤◌}
 use lib.ListN.{length}
-use Rattle.store.specs.Layout.{editionOf}
-use Rattle.store.specs.Store.{keyCount}
-use Rattle.runs.specs.Alike.{isSound}
-use Rattle.records.proofs.Theorems.{held_in}
+use Rattle.store.specs.Layout.{edition_of}
+use Rattle.store.specs.Store.{key_count}
+use Rattle.runs.specs.Alike.{is_sound}
+use Rattle.records.proofs.Theorems.{held_in_lem}
 use Rattle.store.proofs.SoundLaws.{sound-says}
 use native.Mathlib.Omega.{arith}
 use Rattle.periods.proofs.lines.Statement.{statement}
 use Rattle.periods.proofs.lines.Tie as tie
 
 abbrev invariant-loop : tie.invariant-loop
-invariant-loop s n i₀ i = (i ≤ n) × (n ≡ keyCount s) × (isSound s ≡ true)
+invariant-loop s n i₀ i = (i ≤ n) × (n ≡ key_count s) × (is_sound s ≡ true)
 
 abbrev decreases-loop : tie.decreases-loop
 decreases-loop s n i₀ i = n - i
@@ -22,7 +22,7 @@ decreases-loop s n i₀ i = n - i
 number-at-requires : tie.Need-number-at-requires invariant-loop decreases-loop
 number-at-requires c κs =
     let start = c.before in
-    let p = held_in (editionOf (length start.args.s.now)) start.args.s.now start.requires in
+    let p = held_in_lem (edition_of (length start.args.s.now)) start.args.s.now start.requires in
     let w = sound-says p.0 start.args.s.now p.1 in
     omega arith
 
@@ -34,9 +34,9 @@ record-at-requires c κs =
     let loop = c.before in
     let number = loop.before in
     let start = number.before.before in
-    let p = held_in (editionOf (length start.args.s.now)) start.args.s.now start.requires in
+    let p = held_in_lem (edition_of (length start.args.s.now)) start.args.s.now start.requires in
     let w = sound-says p.0 start.args.s.now p.1 in
-    (omega arith, omega (arith, w.size, w.keys-fit, loop.loop.invariant.1))
+    (omega arith, omega (arith, w.size, w.keys_fit, loop.loop.invariant.1))
 
 line-requires : tie.Need-line-requires invariant-loop decreases-loop
 line-requires c κs = tt

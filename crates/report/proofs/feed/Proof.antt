@@ -32,12 +32,12 @@ take-line-requires c κs =
 slice-reshare-prefix-end-line : tie.Need-slice-reshare-prefix-end-line invariant-loop decreases-loop
 slice-reshare-prefix-end-line c =
     let taken = c.before.before.before in
-    omega (arith, taken.take-line.ensures.filled-fits, taken.take-line.auto.0)
+    omega (arith, taken.take-line.ensures.filled_fits, taken.take-line.auto.0)
 
 slice-aggregate-end-line : tie.Need-slice-aggregate-end-line invariant-loop decreases-loop
 slice-aggregate-end-line c =
     let taken = c.before.before.before.before in
-    omega (arith, length-take taken.take-line.result.filled taken.take-line.new.0, taken.take-line.ensures.filled-fits, taken.take-line.auto.0)
+    omega (arith, length-take taken.take-line.result.filled taken.take-line.new.0, taken.take-line.ensures.filled_fits, taken.take-line.auto.0)
 
 end-line-requires : tie.Need-end-line-requires invariant-loop decreases-loop
 end-line-requires c κs =
@@ -51,14 +51,14 @@ loop-less : tie.Need-loop-smaller invariant-loop decreases-loop
 loop-less c =
     let ended = c.before.before.before.before in
     let taken = ended.before.before.before.before.before.before.before in
-    omega (arith, taken.take-line.ensures.moves taken.before.before.loop-test.true, taken.take-line.ensures.at-fits)
+    omega (arith, taken.take-line.ensures.moves taken.before.before.loop-test.true, taken.take-line.ensures.at_fits)
 
 loop-again : tie.Need-loop-preserved invariant-loop decreases-loop
 loop-again c =
     let ended = c.before.before.before.before in
     let taken = ended.before.before.before.before.before.before.before in
     let v = taken.before.before.before.loop.invariant in (
-      taken.take-line.ensures.at-fits,
+      taken.take-line.ensures.at_fits,
       taken.take-line.auto.0 ∙ v.1,
       ended.end_line.auto.1.1.0 ∙ v.2,
       ended.end_line.auto.1.1.1.0 ∙ v.3,
@@ -69,17 +69,17 @@ loop-again c =
 loop-less-2 : tie.Need-loop-smaller-2 invariant-loop decreases-loop
 loop-less-2 c =
     let taken = c.before.before.before in
-    omega (arith, taken.take-line.ensures.moves taken.before.before.loop-test.true, taken.take-line.ensures.at-fits)
+    omega (arith, taken.take-line.ensures.moves taken.before.before.loop-test.true, taken.take-line.ensures.at_fits)
 
 loop-again-2 : tie.Need-loop-preserved-2 invariant-loop decreases-loop
 loop-again-2 c =
     let taken = c.before.before.before in
     let v = taken.before.before.before.loop.invariant in (
-      taken.take-line.ensures.at-fits,
+      taken.take-line.ensures.at_fits,
       taken.take-line.auto.0 ∙ v.1,
       v.2,
       v.3,
-      omega (arith, taken.take-line.ensures.filled-fits, v.1),
+      omega (arith, taken.take-line.ensures.filled_fits, v.1),
       v.5,
     )
 

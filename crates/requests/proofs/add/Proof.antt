@@ -3,7 +3,7 @@
 use mathlib.Core.Path.{sym, ◌∙◌}
 use Prim.Native.Nat.{◌-◌}
 use Rattle.octets.proofs.WordLaws.{length-numbers}
-use Rattle.requests.specs.Worked.{newEntry, addition}
+use Rattle.requests.specs.Worked.{new_entry, addition}
 use Rattle.requests.proofs.ResultLaws.{refused, add-room, add-worked}
 use borrow.Author.Rules.{rules}
 use Rattle.requests.proofs.add.Statement.{statement}
@@ -30,7 +30,7 @@ append-requires c κs =
     let add-result = if1.before in
     let start = add-result.before.before.before.before in
     let a = start.args in
-    (start.requires.0, (add-room a.lim a.own a.s.now a.new.recipient (newEntry a.new a.m.now) a.new.count start.requires.0 (sym (length-numbers a.m.now a.new.peers a.new.count)) (sym add-result.add-result.ensures ∙ if1.if1.false), start.requires.1))
+    (start.requires.0, (add-room a.lim a.own a.s.now a.new.recipient (new_entry a.new a.m.now) a.new.count start.requires.0 (sym (length-numbers a.m.now a.new.peers a.new.count)) (sym add-result.add-result.ensures ∙ if1.if1.false), start.requires.1))
 
 same-length-2 : tie.Need-same-length-2
 same-length-2 c = search rules
@@ -42,7 +42,7 @@ returns-2 c =
     let add-result = if1.before in
     let start = add-result.before.before.before.before in
     let a = start.args in
-    add-worked a.lim a.own a.s.now a.new.recipient (newEntry a.new a.m.now) append.append.new.0
+    add-worked a.lim a.own a.s.now a.new.recipient (new_entry a.new a.m.now) append.append.new.0
     (sym add-result.add-result.ensures ∙ if1.if1.false) append.append.ensures
 
 pub add_spec : {M : Type 1} → statement M

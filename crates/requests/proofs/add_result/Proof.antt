@@ -6,8 +6,8 @@ use native.Mathlib.Omega.{arith}
 use borrow.Author.Tests.{not-true, not-false}
 use Rattle.store.proofs.SearchLaws.{Framed, frame}
 use Rattle.octets.proofs.WordLaws.{length-numbers}
-use Rattle.requests.specs.Worked.{newEntry}
-use Rattle.requests.proofs.ResultLaws.{add-not-ours, add-corrupted, add-held, add-full, add-crowded, add-possible}
+use Rattle.requests.specs.Worked.{new_entry}
+use Rattle.requests.proofs.ResultLaws.{add_not_ours, add_corrupted, add-held, add-full, add-crowded, add_possible}
 use borrow.Author.Rules.{rules}
 use Rattle.requests.proofs.add_result.Statement.{statement}
 use Rattle.requests.proofs.add_result.Tie as tie
@@ -25,7 +25,7 @@ returns : tie.Need-returns
 returns c =
     let start = c.before.before.before.before in
     let a = start.args in
-    add-not-ours a.lim a.own a.s.now a.new.recipient (newEntry a.new a.m.now) c.if1.true
+    add_not_ours a.lim a.own a.s.now a.new.recipient (new_entry a.new a.m.now) c.if1.true
 
 all-odd-requires : tie.Need-all-odd-requires
 all-odd-requires c κs = search rules
@@ -36,7 +36,7 @@ returns-2 c =
     let if1 = all-odd.before in
     let start = if1.before.before.before.before in
     let a = start.args in
-    add-corrupted a.lim a.own a.s.now a.new.recipient (newEntry a.new a.m.now) if1.if1.false
+    add_corrupted a.lim a.own a.s.now a.new.recipient (new_entry a.new a.m.now) if1.if1.false
     (sym all-odd.all-odd.ensures ∙ not-true all-odd.all-odd.result c.if2.true)
 
 key-place-requires : tie.Need-key-place-requires
@@ -56,7 +56,7 @@ returns-3 c =
     let number_at = if1.before in
     let start = number_at.before.before.before in
     let a = start.args in
-    add-held a.lim a.own a.s.now a.new.recipient (newEntry a.new a.m.now) if1.if1.false
+    add-held a.lim a.own a.s.now a.new.recipient (new_entry a.new a.m.now) if1.if1.false
     (sym all-odd.all-odd.ensures ∙ not-false all-odd.all-odd.result if2.if2.false) number_at.number_at.result
     key-place.key-place.result number_at.number_at.ensures.0 key-place.key-place.ensures c.if3.true
 
@@ -70,7 +70,7 @@ returns-4 c =
     let number_at = if1.before in
     let start = number_at.before.before.before in
     let a = start.args in
-    add-full a.lim a.own a.s.now a.new.recipient (newEntry a.new a.m.now) if1.if1.false
+    add-full a.lim a.own a.s.now a.new.recipient (new_entry a.new a.m.now) if1.if1.false
     (sym all-odd.all-odd.ensures ∙ not-false all-odd.all-odd.result if2.if2.false) number_at.number_at.result
     key-place.key-place.result number_at.number_at.ensures.0 key-place.key-place.ensures if3.if3.false c.if4.true
 
@@ -98,7 +98,7 @@ returns-5 c =
     let number_at = if1.before in
     let start = number_at.before.before.before in
     let a = start.args in
-    add-crowded a.lim a.own a.s.now a.new.recipient (newEntry a.new a.m.now) if1.if1.false
+    add-crowded a.lim a.own a.s.now a.new.recipient (new_entry a.new a.m.now) if1.if1.false
     (sym all-odd.all-odd.ensures ∙ not-false all-odd.all-odd.result if2.if2.false) number_at.number_at.result
     key-place.key-place.result number_at.number_at.ensures.0 key-place.key-place.ensures if3.if3.false if4.if4.false
     start.requires.0 number-at2.number-at2.result a.new.count number-at2.number-at2.ensures.0
@@ -116,7 +116,7 @@ returns-6 c =
     let number_at = if1.before in
     let start = number_at.before.before.before in
     let a = start.args in
-    add-possible a.lim a.own a.s.now a.new.recipient (newEntry a.new a.m.now) if1.if1.false
+    add_possible a.lim a.own a.s.now a.new.recipient (new_entry a.new a.m.now) if1.if1.false
     (sym all-odd.all-odd.ensures ∙ not-false all-odd.all-odd.result if2.if2.false) number_at.number_at.result
     key-place.key-place.result number_at.number_at.ensures.0 key-place.key-place.ensures if3.if3.false if4.if4.false
     start.requires.0 number-at2.number-at2.result a.new.count number-at2.number-at2.ensures.0

@@ -88,7 +88,7 @@ returns-2 c =
     let says = counts-at.counts-at.ensures in
     let xs = numbers a.m.now a.at a.count in
     let o = around a.lim a.s.now i n q.peers q.first q.count (λ j. (slice-known.slice-known.given j).fits) start.requires.0
-    (omega arith) number_at.number_at.ensures.0 says.peers-are says.first-is says.count-is in
+    (omega arith) number_at.number_at.ensures.0 says.peers_are says.first_is says.count_is in
     λ own. entities-over a.lim a.s.now a.issuer a.serial number_at.number_at.result key-place.key-place.result
     number_at.number_at.ensures.0 key-place.key-place.ensures own q.peers q.first q.count o (omega arith) xs a.count
     (sym (length-numbers a.m.now a.at a.count)) (λ j. (slice-known.slice-known.given j).fits) start.requires.0 c.if2.true
@@ -124,7 +124,7 @@ returns-3 c =
     let says = counts-at.counts-at.ensures in
     let xs = numbers a.m.now a.at a.count in
     let o = around a.lim a.s.now i n q.peers q.first q.count (λ j. (slice-known.slice-known.given j).fits) start.requires.0
-    (omega arith) number_at.number_at.ensures.0 says.peers-are says.first-is says.count-is in
+    (omega arith) number_at.number_at.ensures.0 says.peers_are says.first_is says.count_is in
     λ own. entities-worked a.lim a.s.now a.issuer a.serial number_at.number_at.result key-place.key-place.result
     number_at.number_at.ensures.0 key-place.key-place.ensures own q.peers q.first q.count o (omega arith) xs a.count
     (sym (length-numbers a.m.now a.at a.count)) set-peers.set-peers.new.0 if2.if2.false set-peers.set-peers.ensures

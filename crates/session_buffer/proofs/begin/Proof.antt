@@ -3,8 +3,8 @@
 use mathlib.Core.Path.{sym, ap, ◌∙◌}
 use Prim.Native.Nat.{◌<◌, ◌^◌}
 use Rattle.refusal.proofs.CodeLaws.{told-given, told-refused}
-use Rattle.session.specs.Sessions.{Beginning, begunAs}
-use Rattle.session_buffer.specs.SessionBuffer.{begunLength, begunBuffer}
+use Rattle.session.specs.Sessions.{Beginning, begun_as}
+use Rattle.session_buffer.specs.SessionBuffer.{begun_length, begun_buffer}
 use Rattle.session_buffer.proofs.TellLaws.{init-small}
 use borrow.Author.Rules.{rules}
 use Rattle.session_buffer.proofs.begin.Statement.{statement}
@@ -15,7 +15,7 @@ small k =
     let given = k.before.before.made.given in
     let begin = k.before.before.before.before.before.before in
     let a = begin.before.before.before.args in
-    init-small a.own a.peer a.number a.out.now given.0.0 given.0.1.0 (sym begin.begin.ensures.answer ∙ ap begunAs given.1)
+    init-small a.own a.peer a.number a.out.now given.0.0 given.0.1.0 (sym begin.begin.ensures.answer ∙ ap begun_as given.1)
 
 begin-requires : tie.Need-begin-requires
 begin-requires c κs = search rules
@@ -44,8 +44,8 @@ returns c =
     let given = c.before.before.made.given in
     let begin = c.before.before.before.before.before.before in
     let a = begin.before.before.before.args in
-    let q = sym (ap begunAs given.1) ∙ begin.begin.ensures.answer in
-    (told-given given.0.1.0 (small c) (ap begunLength q), (c.bytes_of.ensures ∙ ap (λ (b : Beginning). begunBuffer b a.session.now) q, begin.begin.ensures.written))
+    let q = sym (ap begun_as given.1) ∙ begin.begin.ensures.answer in
+    (told-given given.0.1.0 (small c) (ap begun_length q), (c.bytes_of.ensures ∙ ap (λ (b : Beginning). begun_buffer b a.session.now) q, begin.begin.ensures.written))
 
 same-length-2 : tie.Need-same-length-2
 same-length-2 c = search rules
@@ -55,8 +55,8 @@ returns-2 c =
     let h = c.before.before.h.given in
     let begin = c.before.before.before.before.before.before in
     let a = begin.before.before.before.args in
-    let q = sym (ap begunAs h.1) ∙ begin.begin.ensures.answer in
-    (told-refused h.0.0 c.refusal-code.result c.refusal-code.ensures (ap begunLength q), (ap (λ (b : Beginning). begunBuffer b a.session.now) q, begin.begin.ensures.written))
+    let q = sym (ap begun_as h.1) ∙ begin.begin.ensures.answer in
+    (told-refused h.0.0 c.refusal-code.result c.refusal-code.ensures (ap begun_length q), (ap (λ (b : Beginning). begun_buffer b a.session.now) q, begin.begin.ensures.written))
 
 pub begin-spec : {M : Type 1} → statement M
 begin-spec =

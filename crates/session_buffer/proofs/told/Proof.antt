@@ -5,8 +5,8 @@ use Prim.Native.Nat.{◌<◌, ◌^◌}
 use Rattle.refusal.specs.Code.{code}
 use Rattle.refusal.proofs.CodeLaws.{told-given, told-refused}
 use Rattle.session.specs.declared.Received.{Received}
-use Rattle.session.specs.Rules.{receivedAs}
-use Rattle.session_buffer.specs.SessionBuffer.{replyLength}
+use Rattle.session.specs.Rules.{received_as}
+use Rattle.session_buffer.specs.SessionBuffer.{reply_length}
 use borrow.Author.Rules.{rules}
 use Rattle.session_buffer.proofs.told.Statement.{statement}
 use Rattle.session_buffer.proofs.told.Tie as tie
@@ -14,7 +14,7 @@ use Rattle.session_buffer.proofs.told.Tie as tie
 short : (k : tie.After-known-told) → k.before.answer.given.0.0 < 2 ^ 31
 short k =
     let start = k.before.before.before in
-    start.requires.by k.before.answer.given.0.0 (ap receivedAs k.before.answer.given.1)
+    start.requires.by k.before.answer.given.0.0 (ap received_as k.before.answer.given.1)
 
 enum-known-answer : tie.Need-enum-known-answer
 enum-known-answer c = search rules
@@ -37,18 +37,18 @@ refusal-code-requires c κs = search rules
 
 returns : tie.Need-returns
 returns c =
-    told-given c.before.answer.given.0.0 (short c) (sym (ap (λ (r : Received). replyLength (receivedAs r)) c.before.answer.given.1))
+    told-given c.before.answer.given.0.0 (short c) (sym (ap (λ (r : Received). reply_length (received_as r)) c.before.answer.given.1))
 
 returns-2 : tie.Need-returns-2
-returns-2 c = sym (ap (λ (r : Received). code (replyLength (receivedAs r))) c.enum_told.given.1)
+returns-2 c = sym (ap (λ (r : Received). code (reply_length (received_as r))) c.enum_told.given.1)
 
 returns-3 : tie.Need-returns-3
-returns-3 c = sym (ap (λ (r : Received). code (replyLength (receivedAs r))) c.enum-told2.given.1)
+returns-3 c = sym (ap (λ (r : Received). code (reply_length (received_as r))) c.enum-told2.given.1)
 
 returns-4 : tie.Need-returns-4
 returns-4 c =
     let h = c.before.before.answer2.given in
-    told-refused h.0.0 c.refusal-code.result c.refusal-code.ensures (sym (ap (λ (r : Received). replyLength (receivedAs r)) h.1))
+    told-refused h.0.0 c.refusal-code.result c.refusal-code.ensures (sym (ap (λ (r : Received). reply_length (received_as r)) h.1))
 
 pub told-spec : {M : Type 1} → statement M
 told-spec =

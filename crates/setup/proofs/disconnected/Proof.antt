@@ -4,10 +4,10 @@ use mathlib.Core.Path.{refl}
 use borrow.Author.Rules.{rules}
 use Rattle.table.specs.declared.State.TheVariants.{IDLE, WFTC, WFAR, DATA, WFAU3, WFRESP}
 use Rattle.table.specs.declared.ToTransport.TheVariants.{Quiet}
-use Rattle.table.specs.Table.{no, SaDiscInd, a19, to, squareOf, square, row_in, table}
-use Rattle.table.specs.Steps.{disconnectIndication, asked, carried}
+use Rattle.table.specs.Table.{no, SaDiscInd, a19, to, square_of, square, row_in, table}
+use Rattle.table.specs.Steps.{disconnect_indication, asked, carried}
 use Rattle.table.proofs.StepLaws.{does-short}
-use Rattle.table.proofs.CallLaws.{nothing-in, quiet-in}
+use Rattle.table.proofs.CallLaws.{nothing_in, quiet_in}
 use Rattle.setup.proofs.disconnected.Statement.{statement}
 use Rattle.setup.proofs.disconnected.Tie as tie
 
@@ -61,14 +61,14 @@ unfolding asked square row_in table
 returns-2 c =
     let at = c.before.before.before in
     let start = at.before.before.before.before in
-    nothing-in (disconnectIndication start.args.reason start.args.unit.now) IDLE at.before.if1.false refl at.state-of.ensures c.before.enum_told.given.1 refl c.unmoved.ensures.0 c.unmoved.ensures.1
+    nothing_in (disconnect_indication start.args.reason start.args.unit.now) IDLE at.before.if1.false refl at.state-of.ensures c.before.enum_told.given.1 refl c.unmoved.ensures.0 c.unmoved.ensures.1
 
 returns-3 : tie.Need-returns-3
 unfolding asked carried square row_in table
 returns-3 c =
     let at = c.before.before.before in
     let start = at.before.before.before.before in
-    quiet-in (disconnectIndication start.args.reason start.args.unit.now) WFTC (squareOf SaDiscInd Quiet a19 (to IDLE)) _ _ at.before.if1.false refl at.state-of.ensures c.before.enum-told2.given.1 refl refl refl
+    quiet_in (disconnect_indication start.args.reason start.args.unit.now) WFTC (square_of SaDiscInd Quiet a19 (to IDLE)) _ _ at.before.if1.false refl at.state-of.ensures c.before.enum-told2.given.1 refl refl refl
     c.lost.ensures.0 c.lost.ensures.1
 
 returns-4 : tie.Need-returns-4
@@ -76,7 +76,7 @@ unfolding asked carried square row_in table
 returns-4 c =
     let at = c.before.before.before in
     let start = at.before.before.before.before in
-    quiet-in (disconnectIndication start.args.reason start.args.unit.now) WFAR (squareOf SaDiscInd Quiet a19 (to IDLE)) _ _ at.before.if1.false refl at.state-of.ensures c.before.enum-told3.given.1 refl refl refl
+    quiet_in (disconnect_indication start.args.reason start.args.unit.now) WFAR (square_of SaDiscInd Quiet a19 (to IDLE)) _ _ at.before.if1.false refl at.state-of.ensures c.before.enum-told3.given.1 refl refl refl
     c.lost2.ensures.0 c.lost2.ensures.1
 
 returns-5 : tie.Need-returns-5
@@ -84,7 +84,7 @@ unfolding asked carried square row_in table
 returns-5 c =
     let at = c.before.before.before in
     let start = at.before.before.before.before in
-    quiet-in (disconnectIndication start.args.reason start.args.unit.now) DATA (squareOf SaDiscInd Quiet a19 (to IDLE)) _ _ at.before.if1.false refl at.state-of.ensures c.before.enum-told4.given.1 refl refl refl
+    quiet_in (disconnect_indication start.args.reason start.args.unit.now) DATA (square_of SaDiscInd Quiet a19 (to IDLE)) _ _ at.before.if1.false refl at.state-of.ensures c.before.enum-told4.given.1 refl refl refl
     c.lost3.ensures.0 c.lost3.ensures.1
 
 returns-6 : tie.Need-returns-6
@@ -92,7 +92,7 @@ unfolding asked carried square row_in table
 returns-6 c =
     let at = c.before.before.before in
     let start = at.before.before.before.before in
-    quiet-in (disconnectIndication start.args.reason start.args.unit.now) WFAU3 (squareOf no Quiet a19 (to IDLE)) _ _ at.before.if1.false refl at.state-of.ensures c.before.enum-told5.given.1 refl refl refl
+    quiet_in (disconnect_indication start.args.reason start.args.unit.now) WFAU3 (square_of no Quiet a19 (to IDLE)) _ _ at.before.if1.false refl at.state-of.ensures c.before.enum-told5.given.1 refl refl refl
     c.ended.ensures.0 c.ended.ensures.1
 
 returns-7 : tie.Need-returns-7
@@ -100,7 +100,7 @@ unfolding asked carried square row_in table
 returns-7 c =
     let at = c.before.before.before in
     let start = at.before.before.before.before in
-    quiet-in (disconnectIndication start.args.reason start.args.unit.now) WFRESP (squareOf SaDiscInd Quiet a19 (to IDLE)) _ _ at.before.if1.false refl at.state-of.ensures c.before.enum-told6.given.1 refl refl refl
+    quiet_in (disconnect_indication start.args.reason start.args.unit.now) WFRESP (square_of SaDiscInd Quiet a19 (to IDLE)) _ _ at.before.if1.false refl at.state-of.ensures c.before.enum-told6.given.1 refl refl refl
     c.lost4.ensures.0 c.lost4.ensures.1
 
 pub disconnected-spec : {M : Type 1} → statement M

@@ -6,7 +6,7 @@ use Rattle.table.specs.declared.State.TheVariants.{WFTC, WFAR, DATA, WFAU3, WFRE
 use Rattle.table.specs.Table.{square, row_in, table}
 use Rattle.table.specs.Steps.{asked}
 use Rattle.table.proofs.StepLaws.{does-short}
-use Rattle.table.proofs.CallLaws.{nothing-in}
+use Rattle.table.proofs.CallLaws.{nothing_in}
 use Rattle.setup.proofs.request.Statement.{statement}
 use Rattle.setup.proofs.request.Tie as tie
 
@@ -67,31 +67,31 @@ returns-3 : tie.Need-returns-3
 unfolding asked square row_in table
 returns-3 c =
     let at = c.before.before.before in
-    nothing-in _ WFTC at.before.if1.false refl at.state-of.ensures c.before.enum-told2.given.1 refl c.unmoved.ensures.0 c.unmoved.ensures.1
+    nothing_in _ WFTC at.before.if1.false refl at.state-of.ensures c.before.enum-told2.given.1 refl c.unmoved.ensures.0 c.unmoved.ensures.1
 
 returns-4 : tie.Need-returns-4
 unfolding asked square row_in table
 returns-4 c =
     let at = c.before.before.before in
-    nothing-in _ WFAR at.before.if1.false refl at.state-of.ensures c.before.enum-told3.given.1 refl c.unmoved2.ensures.0 c.unmoved2.ensures.1
+    nothing_in _ WFAR at.before.if1.false refl at.state-of.ensures c.before.enum-told3.given.1 refl c.unmoved2.ensures.0 c.unmoved2.ensures.1
 
 returns-5 : tie.Need-returns-5
 unfolding asked square row_in table
 returns-5 c =
     let at = c.before.before.before in
-    nothing-in _ DATA at.before.if1.false refl at.state-of.ensures c.before.enum-told4.given.1 refl c.unmoved3.ensures.0 c.unmoved3.ensures.1
+    nothing_in _ DATA at.before.if1.false refl at.state-of.ensures c.before.enum-told4.given.1 refl c.unmoved3.ensures.0 c.unmoved3.ensures.1
 
 returns-6 : tie.Need-returns-6
 unfolding asked square row_in table
 returns-6 c =
     let at = c.before.before.before in
-    nothing-in _ WFAU3 at.before.if1.false refl at.state-of.ensures c.before.enum-told5.given.1 refl c.unmoved4.ensures.0 c.unmoved4.ensures.1
+    nothing_in _ WFAU3 at.before.if1.false refl at.state-of.ensures c.before.enum-told5.given.1 refl c.unmoved4.ensures.0 c.unmoved4.ensures.1
 
 returns-7 : tie.Need-returns-7
 unfolding asked square row_in table
 returns-7 c =
     let at = c.before.before.before in
-    nothing-in _ WFRESP at.before.if1.false refl at.state-of.ensures c.before.enum-told6.given.1 refl c.unmoved5.ensures.0 c.unmoved5.ensures.1
+    nothing_in _ WFRESP at.before.if1.false refl at.state-of.ensures c.before.enum-told6.given.1 refl c.unmoved5.ensures.0 c.unmoved5.ensures.1
 
 pub request-spec : {M : Type 1} → statement M
 request-spec =

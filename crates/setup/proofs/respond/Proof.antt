@@ -6,8 +6,8 @@ use Rattle.table.specs.declared.State.TheVariants.{IDLE, WFTC, WFAR, DATA, WFAU3
 use Rattle.table.specs.Table.{square, row_in, table}
 use Rattle.table.specs.Steps.{asked}
 use Rattle.table.proofs.StepLaws.{does-short}
-use Rattle.table.proofs.CallLaws.{nothing-in}
-use Rattle.table.proofs.SideLaws.{response-sent}
+use Rattle.table.proofs.CallLaws.{nothing_in}
+use Rattle.table.proofs.SideLaws.{response_sent}
 use Rattle.setup.proofs.respond.Statement.{statement}
 use Rattle.setup.proofs.respond.Tie as tie
 
@@ -60,31 +60,31 @@ returns-2 : tie.Need-returns-2
 unfolding asked square row_in table
 returns-2 c =
     let at = c.before.before.before in
-    nothing-in _ IDLE at.before.if1.false refl at.state-of.ensures c.before.enum_told.given.1 refl c.unmoved.ensures.0 c.unmoved.ensures.1
+    nothing_in _ IDLE at.before.if1.false refl at.state-of.ensures c.before.enum_told.given.1 refl c.unmoved.ensures.0 c.unmoved.ensures.1
 
 returns-3 : tie.Need-returns-3
 unfolding asked square row_in table
 returns-3 c =
     let at = c.before.before.before in
-    nothing-in _ WFTC at.before.if1.false refl at.state-of.ensures c.before.enum-told2.given.1 refl c.unmoved2.ensures.0 c.unmoved2.ensures.1
+    nothing_in _ WFTC at.before.if1.false refl at.state-of.ensures c.before.enum-told2.given.1 refl c.unmoved2.ensures.0 c.unmoved2.ensures.1
 
 returns-4 : tie.Need-returns-4
 unfolding asked square row_in table
 returns-4 c =
     let at = c.before.before.before in
-    nothing-in _ WFAR at.before.if1.false refl at.state-of.ensures c.before.enum-told3.given.1 refl c.unmoved3.ensures.0 c.unmoved3.ensures.1
+    nothing_in _ WFAR at.before.if1.false refl at.state-of.ensures c.before.enum-told3.given.1 refl c.unmoved3.ensures.0 c.unmoved3.ensures.1
 
 returns-5 : tie.Need-returns-5
 unfolding asked square row_in table
 returns-5 c =
     let at = c.before.before.before in
-    nothing-in _ DATA at.before.if1.false refl at.state-of.ensures c.before.enum-told4.given.1 refl c.unmoved4.ensures.0 c.unmoved4.ensures.1
+    nothing_in _ DATA at.before.if1.false refl at.state-of.ensures c.before.enum-told4.given.1 refl c.unmoved4.ensures.0 c.unmoved4.ensures.1
 
 returns-6 : tie.Need-returns-6
 unfolding asked square row_in table
 returns-6 c =
     let at = c.before.before.before in
-    nothing-in _ WFAU3 at.before.if1.false refl at.state-of.ensures c.before.enum-told5.given.1 refl c.unmoved5.ensures.0 c.unmoved5.ensures.1
+    nothing_in _ WFAU3 at.before.if1.false refl at.state-of.ensures c.before.enum-told5.given.1 refl c.unmoved5.ensures.0 c.unmoved5.ensures.1
 
 same_length : tie.Need-same-length
 same_length c = search rules
@@ -94,7 +94,7 @@ returns-7 c =
     let sent = c.before.before in
     let told = sent.before.before in
     let at = told.before.before in
-    response-sent _ _ at.before.if1.false (sym at.state-of.ensures ∙ told.enum-told6.given.1) sent.send-ar.ensures.0 sent.send-ar.ensures.1 sent.send-ar.ensures.2
+    response_sent _ _ at.before.if1.false (sym at.state-of.ensures ∙ told.enum-told6.given.1) sent.send-ar.ensures.0 sent.send-ar.ensures.1 sent.send-ar.ensures.2
 
 pub respond-spec : {M : Type 1} → statement M
 respond-spec =

@@ -6,18 +6,18 @@ use lib.ListN.{length}
 use Prim.Native.Nat.{ℕ}
 use borrow.Author.Rules.{rules}
 use Rattle.octets.specs.Bytes.{between}
-use Rattle.octets.proofs.BoolLaws.{test-holds, test-fails}
+use Rattle.octets.proofs.BoolLaws.{test-holds, test_fails}
 use Rattle.authentication.proofs.UnitLaws.{length-unit}
-use Rattle.units.specs.Units.{etcsId}
+use Rattle.units.specs.Units.{etcs_id}
 use Rattle.table.specs.declared.State.TheVariants.{IDLE, WFTC, WFAR, DATA, WFAU3, WFRESP}
 use Rattle.table.specs.declared.Stepped.TheVariants as stepped
 use Rattle.table.specs.declared.ToUser.TheVariants as user
 use Rattle.table.specs.declared.ToTransport.TheVariants.{SendDt}
 use Rattle.table.specs.declared.Timer.TheVariants.{Keep}
-use Rattle.table.specs.Table.{no, to, squareOf, square, row_in, table}
-use Rattle.table.specs.Steps.{dataRequest, asked, carried, acts}
+use Rattle.table.specs.Table.{no, to, square_of, square, row_in, table}
+use Rattle.table.specs.Steps.{data_request, asked, carried, acts}
 use Rattle.table.proofs.StepLaws.{does-short, does-unsendable}
-use Rattle.table.proofs.CallLaws.{nothing-in, sent-in}
+use Rattle.table.proofs.CallLaws.{nothing_in, sent_in}
 use Rattle.setup.proofs.send.Statement.{statement}
 use Rattle.setup.proofs.send.Tie as tie
 
@@ -42,7 +42,7 @@ returns-2 : tie.Need-returns-2
 returns-2 c =
     let tested = c.before in
     let sized = tested.before in
-    does-unsendable _ _ _ _ _ sized.before.if1.false (test-fails sized.between.result sized.between.ensures tested.if2.true) c.refuse2.ensures.0 c.refuse2.ensures.1
+    does-unsendable _ _ _ _ _ sized.before.if1.false (test_fails sized.between.result sized.between.ensures tested.if2.true) c.refuse2.ensures.0 c.refuse2.ensures.1
 
 state-of-requires : tie.Need-state-of-requires
 state-of-requires c κs = search rules
@@ -90,21 +90,21 @@ unfolding asked square row_in table
 returns-3 c =
     let at = c.before.before.before in
     let tested = at.before in
-    nothing-in _ IDLE tested.before.before.if1.false (sendable tested) at.state-of.ensures c.before.enum_told.given.1 refl c.unmoved.ensures.0 c.unmoved.ensures.1
+    nothing_in _ IDLE tested.before.before.if1.false (sendable tested) at.state-of.ensures c.before.enum_told.given.1 refl c.unmoved.ensures.0 c.unmoved.ensures.1
 
 returns-4 : tie.Need-returns-4
 unfolding asked square row_in table
 returns-4 c =
     let at = c.before.before.before in
     let tested = at.before in
-    nothing-in _ WFTC tested.before.before.if1.false (sendable tested) at.state-of.ensures c.before.enum-told2.given.1 refl c.unmoved2.ensures.0 c.unmoved2.ensures.1
+    nothing_in _ WFTC tested.before.before.if1.false (sendable tested) at.state-of.ensures c.before.enum-told2.given.1 refl c.unmoved2.ensures.0 c.unmoved2.ensures.1
 
 returns-5 : tie.Need-returns-5
 unfolding asked square row_in table
 returns-5 c =
     let at = c.before.before.before in
     let tested = at.before in
-    nothing-in _ WFAR tested.before.before.if1.false (sendable tested) at.state-of.ensures c.before.enum-told3.given.1 refl c.unmoved3.ensures.0 c.unmoved3.ensures.1
+    nothing_in _ WFAR tested.before.before.if1.false (sendable tested) at.state-of.ensures c.before.enum-told3.given.1 refl c.unmoved3.ensures.0 c.unmoved3.ensures.1
 
 same_length : tie.Need-same-length
 same_length c = search rules
@@ -118,9 +118,9 @@ returns-6 c =
     let tested = at.before in
     let start = tested.before.before.before.before.before in
     let a = start.args in
-    sent-in (dataRequest a.user.now) DATA (squareOf no SendDt Keep (to DATA)) _ _ tested.before.before.if1.false (sendable tested) at.state-of.ensures told.enum-told4.given.1 refl refl
+    sent_in (data_request a.user.now) DATA (square_of no SendDt Keep (to DATA)) _ _ tested.before.before.if1.false (sendable tested) at.state-of.ensures told.enum-told4.given.1 refl refl
     (k.send-dt.ensures.0
-    ∙ ap (λ (n : ℕ). stepped.Done (acts user.Nothing SendDt Keep n)) (sym (length-unit a.c.key (etcsId a.c.peer) a.c.responder a.user.now)))
+    ∙ ap (λ (n : ℕ). stepped.Done (acts user.Nothing SendDt Keep n)) (sym (length-unit a.c.key (etcs_id a.c.peer) a.c.responder a.user.now)))
     k.send-dt.ensures.1 k.send-dt.ensures.2
 
 returns-7 : tie.Need-returns-7
@@ -128,14 +128,14 @@ unfolding asked square row_in table
 returns-7 c =
     let at = c.before.before.before in
     let tested = at.before in
-    nothing-in _ WFAU3 tested.before.before.if1.false (sendable tested) at.state-of.ensures c.before.enum-told5.given.1 refl c.unmoved4.ensures.0 c.unmoved4.ensures.1
+    nothing_in _ WFAU3 tested.before.before.if1.false (sendable tested) at.state-of.ensures c.before.enum-told5.given.1 refl c.unmoved4.ensures.0 c.unmoved4.ensures.1
 
 returns-8 : tie.Need-returns-8
 unfolding asked square row_in table
 returns-8 c =
     let at = c.before.before.before in
     let tested = at.before in
-    nothing-in _ WFRESP tested.before.before.if1.false (sendable tested) at.state-of.ensures c.before.enum-told6.given.1 refl c.unmoved5.ensures.0 c.unmoved5.ensures.1
+    nothing_in _ WFRESP tested.before.before.if1.false (sendable tested) at.state-of.ensures c.before.enum-told6.given.1 refl c.unmoved5.ensures.0 c.unmoved5.ensures.1
 
 pub send-spec : {M : Type 1} → statement M
 send-spec =

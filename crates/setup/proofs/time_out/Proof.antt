@@ -2,13 +2,13 @@
 -- Assumes nothing.
 use mathlib.Core.Path.{refl}
 use borrow.Author.Rules.{rules}
-use Rattle.units.specs.Units.{diUnit}
+use Rattle.units.specs.Units.{di_unit}
 use Rattle.table.specs.declared.State.TheVariants.{IDLE, WFTC, WFAR, DATA, WFAU3, WFRESP}
 use Rattle.table.specs.declared.ToTransport.TheVariants.{TDiscReq, TDiscReqDi}
-use Rattle.table.specs.Table.{SaDiscInd, a19, to, squareOf, square, row_in, table}
-use Rattle.table.specs.Steps.{timeOut, asked, carried}
+use Rattle.table.specs.Table.{SaDiscInd, a19, to, square_of, square, row_in, table}
+use Rattle.table.specs.Steps.{time_out, asked, carried}
 use Rattle.table.proofs.StepLaws.{does-short}
-use Rattle.table.proofs.CallLaws.{nothing-in, quiet-in, sent-in}
+use Rattle.table.proofs.CallLaws.{nothing_in, quiet_in, sent_in}
 use Rattle.setup.proofs.time_out.Statement.{statement}
 use Rattle.setup.proofs.time_out.Tie as tie
 
@@ -62,27 +62,27 @@ unfolding asked square row_in table
 returns-2 c =
     let at = c.before.before.before in
     let start = at.before.before.before in
-    nothing-in timeOut IDLE at.before.if1.false refl at.state-of.ensures c.before.enum_told.given.1 refl c.unmoved.ensures.0 c.unmoved.ensures.1
+    nothing_in time_out IDLE at.before.if1.false refl at.state-of.ensures c.before.enum_told.given.1 refl c.unmoved.ensures.0 c.unmoved.ensures.1
 
 returns-3 : tie.Need-returns-3
 unfolding asked carried square row_in table
 returns-3 c =
     let at = c.before.before.before in
     let start = at.before.before.before in
-    quiet-in timeOut WFTC (squareOf SaDiscInd TDiscReq a19 (to IDLE)) _ _ at.before.if1.false refl at.state-of.ensures c.before.enum-told2.given.1 refl refl refl
+    quiet_in time_out WFTC (square_of SaDiscInd TDiscReq a19 (to IDLE)) _ _ at.before.if1.false refl at.state-of.ensures c.before.enum-told2.given.1 refl refl refl
     c.ended.ensures.0 c.ended.ensures.1
 
 same_length : tie.Need-same-length
 same_length c = search rules
 
 returns-4 : tie.Need-returns-4
-unfolding asked carried square row_in table diUnit
+unfolding asked carried square row_in table di_unit
 returns-4 c =
     let k = c.before.before in
     let told = k.before.before in
     let at = told.before.before in
     let start = at.before.before.before in
-    sent-in timeOut WFAR (squareOf SaDiscInd TDiscReqDi a19 (to IDLE)) _ _ at.before.if1.false refl at.state-of.ensures told.enum-told3.given.1 refl refl
+    sent_in time_out WFAR (square_of SaDiscInd TDiscReqDi a19 (to IDLE)) _ _ at.before.if1.false refl at.state-of.ensures told.enum-told3.given.1 refl refl
     k.broken.ensures.0 k.broken.ensures.1 k.broken.ensures.2
 
 returns-5 : tie.Need-returns-5
@@ -90,21 +90,21 @@ unfolding asked square row_in table
 returns-5 c =
     let at = c.before.before.before in
     let start = at.before.before.before in
-    nothing-in timeOut DATA at.before.if1.false refl at.state-of.ensures c.before.enum-told4.given.1 refl c.unmoved2.ensures.0 c.unmoved2.ensures.1
+    nothing_in time_out DATA at.before.if1.false refl at.state-of.ensures c.before.enum-told4.given.1 refl c.unmoved2.ensures.0 c.unmoved2.ensures.1
 
 returns-6 : tie.Need-returns-6
 unfolding asked square row_in table
 returns-6 c =
     let at = c.before.before.before in
     let start = at.before.before.before in
-    nothing-in timeOut WFAU3 at.before.if1.false refl at.state-of.ensures c.before.enum-told5.given.1 refl c.unmoved3.ensures.0 c.unmoved3.ensures.1
+    nothing_in time_out WFAU3 at.before.if1.false refl at.state-of.ensures c.before.enum-told5.given.1 refl c.unmoved3.ensures.0 c.unmoved3.ensures.1
 
 returns-7 : tie.Need-returns-7
 unfolding asked square row_in table
 returns-7 c =
     let at = c.before.before.before in
     let start = at.before.before.before in
-    nothing-in timeOut WFRESP at.before.if1.false refl at.state-of.ensures c.before.enum-told6.given.1 refl c.unmoved4.ensures.0 c.unmoved4.ensures.1
+    nothing_in time_out WFRESP at.before.if1.false refl at.state-of.ensures c.before.enum-told6.given.1 refl c.unmoved4.ensures.0 c.unmoved4.ensures.1
 
 pub time-out-spec : {M : Type 1} → statement M
 time-out-spec =

@@ -3,7 +3,7 @@
 use mathlib.Core.Path.{ap}
 use borrow.Author.Rules.{rules}
 use Rattle.table.specs.declared.Kind.{Kind}
-use Rattle.table.specs.Steps.{unitIndication, step}
+use Rattle.table.specs.Steps.{unit_indication, step}
 use Rattle.table.proofs.StepLaws.{does-along, does-short}
 use Rattle.setup.proofs.unit.Statement.{statement}
 use Rattle.setup.proofs.unit.Tie as tie
@@ -41,7 +41,7 @@ returns-2 c =
     let k = c.before.before in
     let told = k.before.before in
     let start = told.before.before.before.before.before in
-    does-along (ap (λ (k : Kind). step (unitIndication k start.args.unit.now) start.args.c start.args.out.now) told.enum_told.given.1) k.take-au3.ensures
+    does-along (ap (λ (k : Kind). step (unit_indication k start.args.unit.now) start.args.c start.args.out.now) told.enum_told.given.1) k.take-au3.ensures
 
 same-length-2 : tie.Need-same-length-2
 same-length-2 c = search rules
@@ -51,7 +51,7 @@ returns-3 c =
     let k = c.before.before in
     let told = k.before.before in
     let start = told.before.before.before.before.before in
-    does-along (ap (λ (k : Kind). step (unitIndication k start.args.unit.now) start.args.c start.args.out.now) told.enum-told2.given.1) k.take-ar.ensures
+    does-along (ap (λ (k : Kind). step (unit_indication k start.args.unit.now) start.args.c start.args.out.now) told.enum-told2.given.1) k.take-ar.ensures
 
 same-length-3 : tie.Need-same-length-3
 same-length-3 c = search rules
@@ -61,7 +61,7 @@ returns-4 c =
     let k = c.before.before in
     let told = k.before.before in
     let start = told.before.before.before.before.before in
-    does-along (ap (λ (k : Kind). step (unitIndication k start.args.unit.now) start.args.c start.args.out.now) told.enum-told3.given.1) k.take-dt.ensures
+    does-along (ap (λ (k : Kind). step (unit_indication k start.args.unit.now) start.args.c start.args.out.now) told.enum-told3.given.1) k.take-dt.ensures
 
 pub unit_spec : {M : Type 1} → statement M
 unit_spec =

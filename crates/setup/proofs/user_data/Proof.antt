@@ -3,7 +3,7 @@
 use mathlib.Core.Path.{sym, ap, ◌∙◌}
 use borrow.Author.Rules.{rules}
 use Rattle.table.specs.declared.Kind.{Kind}
-use Rattle.table.specs.Steps.{unitIndication, step, handedUp}
+use Rattle.table.specs.Steps.{unit_indication, step, handed_up}
 use Rattle.table.proofs.UnitLaws.{refused-up, au3-up, ar-up}
 use Rattle.setup.proofs.user_data.Statement.{statement}
 use Rattle.setup.proofs.user_data.Tie as tie
@@ -40,21 +40,21 @@ returns-2 c =
     let told = c.before in
     let start = told.before.before.before.before.before in
     let a = start.args in
-    au3-up a.c a.unit.now a.out.now told.before.before.if1.false ∙ ap (λ (k : Kind). handedUp (step (unitIndication k a.unit.now) a.c a.out.now).answer a.unit.now) (sym told.enum_told.given.1)
+    au3-up a.c a.unit.now a.out.now told.before.before.if1.false ∙ ap (λ (k : Kind). handed_up (step (unit_indication k a.unit.now) a.c a.out.now).answer a.unit.now) (sym told.enum_told.given.1)
 
 returns-3 : tie.Need-returns-3
 returns-3 c =
     let told = c.before in
     let start = told.before.before.before.before.before in
     let a = start.args in
-    ar-up a.c a.unit.now a.out.now told.before.before.if1.false ∙ ap (λ (k : Kind). handedUp (step (unitIndication k a.unit.now) a.c a.out.now).answer a.unit.now) (sym told.enum-told2.given.1)
+    ar-up a.c a.unit.now a.out.now told.before.before.if1.false ∙ ap (λ (k : Kind). handed_up (step (unit_indication k a.unit.now) a.c a.out.now).answer a.unit.now) (sym told.enum-told2.given.1)
 
 returns-4 : tie.Need-returns-4
 returns-4 c =
     let told = c.before in
     let start = told.before.before.before.before.before in
     let a = start.args in
-    c.data_of.ensures ∙ ap (λ (k : Kind). handedUp (step (unitIndication k a.unit.now) a.c a.out.now).answer a.unit.now) (sym told.enum-told3.given.1)
+    c.data_of.ensures ∙ ap (λ (k : Kind). handed_up (step (unit_indication k a.unit.now) a.c a.out.now).answer a.unit.now) (sym told.enum-told3.given.1)
 
 pub user-data-spec : {M : Type 1} → statement M
 user-data-spec =

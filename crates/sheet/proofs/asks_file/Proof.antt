@@ -1,7 +1,7 @@
 -- `sheet::asks_file` meets its contract.
 -- Assumes nothing.
 use mathlib.Core.Path.{sym, ap, ◌∙◌}
-use Rattle.sheet.specs.Report.{asksFile}
+use Rattle.sheet.specs.Report.{asks_file}
 use Rattle.sheet.specs.declared.Report.{Report}
 use borrow.Author.Rules.{rules}
 use Rattle.sheet.proofs.asks_file.Statement.{statement}
@@ -26,7 +26,7 @@ returns-2 : tie.Need-returns-2
 returns-2 c =
     let told = c.before in
     let a = told.before.before.before.args in
-    c.is_name.ensures ∙ sym (ap (λ (r : Report). asksFile r a.line.now) told.enum-told2.given.1)
+    c.is_name.ensures ∙ sym (ap (λ (r : Report). asks_file r a.line.now) told.enum-told2.given.1)
 
 returns-3 : tie.Need-returns-3
 returns-3 c = search rules

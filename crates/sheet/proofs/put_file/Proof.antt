@@ -1,7 +1,7 @@
 -- `sheet::put_file` meets its contract.
 -- Assumes nothing.
 use mathlib.Core.Path.{refl}
-use Rattle.sheet.specs.Report.{fileLine}
+use Rattle.sheet.specs.Report.{file_line}
 use Rattle.sheet.proofs.ReportLaws.{told_line}
 use borrow.Author.Rules.{rules}
 use Rattle.sheet.proofs.put_file.Statement.{statement}
@@ -31,7 +31,7 @@ returns c =
     let told = put.before.before.before in
     let counts = told.before.before in
     let a = counts.before.before.before.before.args in
-    told_line (fileLine a.t a.sums a.name.now) counts.counts.ensures told.c.given.1 put.put-store.ensures
+    told_line (file_line a.t a.sums a.name.now) counts.counts.ensures told.c.given.1 put.put-store.ensures
 
 same-length-2 : tie.Need-same-length-2
 same-length-2 c = search rules
@@ -42,7 +42,7 @@ returns-2 c =
     let told = put.before.before in
     let counts = told.before.before in
     let a = counts.before.before.before.before.args in
-    told_line (fileLine a.t a.sums a.name.now) counts.counts.ensures told.enum_told.given.1 (record { text = put.put-bad.ensures; report = refl })
+    told_line (file_line a.t a.sums a.name.now) counts.counts.ensures told.enum_told.given.1 (record { text = put.put-bad.ensures; report = refl })
 
 pub put-file-spec : {M : Type 1} → statement M
 put-file-spec =

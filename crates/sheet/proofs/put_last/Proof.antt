@@ -3,7 +3,7 @@
 use mathlib.Core.Path.{refl, sym}
 use mathlib.Core.List.{[]}
 use Rattle.octets.proofs.SpliceLaws.{splice-none}
-use Rattle.lines.proofs.HexLaws.{puts-all}
+use Rattle.lines.proofs.HexLaws.{puts_all}
 use native.Mathlib.Omega.{arith}
 use Rattle.sheet.specs.Report.{last_of}
 use Rattle.sheet.proofs.ReportLaws.{told_text}
@@ -56,7 +56,7 @@ returns-3 : tie.Need-returns-3
 unfolding last_of
 returns-3 c =
     let a = c.before.before.before.args in
-    told_text last_of c.enum-told2.given.1 (puts-all [] a.out.now a.out.now 0 refl (omega arith) (sym (splice-none a.out.now 0)))
+    told_text last_of c.enum-told2.given.1 (puts_all [] a.out.now a.out.now 0 refl (omega arith) (sym (splice-none a.out.now 0)))
 
 pub put-last-spec : {M : Type 1} → statement M
 put-last-spec =

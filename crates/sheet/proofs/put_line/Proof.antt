@@ -3,7 +3,7 @@
 use mathlib.Core.Path.{refl, sym}
 use mathlib.Core.List.{[]}
 use Rattle.octets.proofs.SpliceLaws.{splice-none}
-use Rattle.lines.proofs.HexLaws.{puts-all}
+use Rattle.lines.proofs.HexLaws.{puts_all}
 use native.Mathlib.Omega.{arith}
 use Rattle.sheet.specs.Report.{line_of}
 use Rattle.sheet.specs.declared.Report.{Report}
@@ -53,7 +53,7 @@ returns-3 : tie.Need-returns-3
 unfolding line_of
 returns-3 c =
     let a = c.before.before.before.before.before.args in
-    told_line (λ (r : Report). line_of r a.line.now a.file.now) refl c.enum-told2.given.1 (record { text = puts-all [] a.out.now a.out.now 0 refl (omega arith) (sym (splice-none a.out.now 0)); report = refl })
+    told_line (λ (r : Report). line_of r a.line.now a.file.now) refl c.enum-told2.given.1 (record { text = puts_all [] a.out.now a.out.now 0 refl (omega arith) (sym (splice-none a.out.now 0)); report = refl })
 
 pub put-line-spec : {M : Type 1} → statement M
 put-line-spec =

@@ -2,11 +2,11 @@
 -- Assumes nothing.
 use mathlib.Core.Path.{refl, sym, ◌∙◌}
 use mathlib.Core.Bool.{Bool, cond}
-use Rattle.depot.specs.Counts.{countsOf}
+use Rattle.depot.specs.Counts.{counts_of}
 use Rattle.sheet.specs.Row.{bad}
-use Rattle.sheet.specs.Report.{fileLine}
+use Rattle.sheet.specs.Report.{file_line}
 use Rattle.sheet.specs.declared.Report.TheVariants.{Names}
-use Rattle.sheet.proofs.InputLaws.{name-short}
+use Rattle.sheet.proofs.InputLaws.{name_short}
 use Rattle.sheet.proofs.ReportLaws.{told_line}
 use borrow.Author.Rules.{rules}
 use Rattle.sheet.proofs.put_name.Statement.{statement}
@@ -20,7 +20,7 @@ put-file-requires c κs =
     let if1 = c.before in
     let named = if1.before in
     let start = named.before.before.before.before in
-    (start.requires, name-short start.args.line.now (sym named.is_name.ensures ∙ if1.if1.true))
+    (start.requires, name_short start.args.line.now (sym named.is_name.ensures ∙ if1.if1.true))
 
 same_length : tie.Need-same-length
 same_length c = search rules
@@ -31,7 +31,7 @@ returns c =
     let if1 = put.before.before in
     let named = if1.before in
     let a = named.before.before.before.before.args in
-    told_line (λ (b : Bool). cond b (fileLine a.t a.sums a.line.now (countsOf a.file.now a.t)) (record { text = bad; report = Names a.t a.sums }))
+    told_line (λ (b : Bool). cond b (file_line a.t a.sums a.line.now (counts_of a.file.now a.t)) (record { text = bad; report = Names a.t a.sums }))
     named.is_name.ensures if1.if1.true put.put-file.ensures
 
 slice-aggregate-put-text : tie.Need-slice-aggregate-put-text
@@ -49,7 +49,7 @@ returns-2 c =
     let if1 = put.before.before.before in
     let named = if1.before in
     let a = named.before.before.before.before.args in
-    told_line (λ (b : Bool). cond b (fileLine a.t a.sums a.line.now (countsOf a.file.now a.t)) (record { text = bad; report = Names a.t a.sums }))
+    told_line (λ (b : Bool). cond b (file_line a.t a.sums a.line.now (counts_of a.file.now a.t)) (record { text = bad; report = Names a.t a.sums }))
     named.is_name.ensures if1.if1.false (record { text = put.put-text.ensures; report = refl })
 
 pub put-name-spec : {M : Type 1} → statement M

@@ -1,7 +1,7 @@
 -- `sheet::put_store` meets its contract.
 -- Assumes nothing.
 use mathlib.Core.Path.{refl}
-use Rattle.sheet.specs.Report.{storeLine}
+use Rattle.sheet.specs.Report.{store_line}
 use Rattle.sheet.proofs.ReportLaws.{told_line}
 use borrow.Author.Rules.{rules}
 use Rattle.sheet.proofs.put_store.Statement.{statement}
@@ -34,7 +34,7 @@ returns c =
     let told = put.before.before.before in
     let added = told.before.before in
     let a = added.before.before.before.args in
-    told_line (storeLine a.t a.name.now a.c) added.added.ensures told.s.given.1 (record { text = put.put-row.ensures; report = refl })
+    told_line (store_line a.t a.name.now a.c) added.added.ensures told.s.given.1 (record { text = put.put-row.ensures; report = refl })
 
 same-length-2 : tie.Need-same-length-2
 same-length-2 c = search rules
@@ -45,7 +45,7 @@ returns-2 c =
     let told = put.before.before.before in
     let added = told.before.before in
     let a = added.before.before.before.args in
-    told_line (storeLine a.t a.name.now a.c) added.added.ensures told.enum_told.given.1 (record { text = put.put-text.ensures; report = refl })
+    told_line (store_line a.t a.name.now a.c) added.added.ensures told.enum_told.given.1 (record { text = put.put-text.ensures; report = refl })
 
 pub put-store-spec : {M : Type 1} → statement M
 put-store-spec =

@@ -5,9 +5,9 @@ use lib.ListN.{length}
 use Prim.Native.Nat.{◌-◌}
 use Rattle.store.specs.declared.Edition.{Edition}
 use Rattle.store.specs.declared.Edition.TheVariants.{Known, Unknown}
-use Rattle.store.specs.Layout.{editionOf}
-use Rattle.store.specs.Search.{emptyIn, emptied}
-use Rattle.store.proofs.SearchLaws.{editionOf-says}
+use Rattle.store.specs.Layout.{edition_of}
+use Rattle.store.specs.Search.{empty_in, emptied}
+use Rattle.store.proofs.SearchLaws.{edition_of-says}
 use borrow.Author.Rules.{rules}
 use Rattle.store.proofs.empty.Statement.{statement}
 use Rattle.store.proofs.empty.Tie as tie
@@ -23,7 +23,7 @@ write-empty-requires c κs =
     let lim = c.before.before in
     let edition-of = lim.before.before in
     let start = edition-of.before.before in
-    editionOf-says (length start.args.s.now) lim.lim.given.0.0 (sym edition-of.edition-of.ensures ∙ lim.lim.given.1)
+    edition_of-says (length start.args.s.now) lim.lim.given.0.0 (sym edition-of.edition-of.ensures ∙ lim.lim.given.1)
 
 enum_told : tie.Need-enum-told
 enum_told c = search rules
@@ -32,22 +32,22 @@ same_length : tie.Need-same-length
 same_length c = search rules
 
 returns : tie.Need-returns
-unfolding emptyIn emptied
+unfolding empty_in emptied
 returns c =
     let write-empty = c.before.before in
     let lim = write-empty.before.before.before in
     let edition-of = lim.before.before in
     let start = edition-of.before.before in
-    let told : Edition.Known lim.lim.given.0.0 ≡ editionOf (length start.args.s.now) = sym lim.lim.given.1 ∙ edition-of.edition-of.ensures in
-    (ap emptyIn told, write-empty.write-empty.ensures ∙ ap (λ (x : Edition). emptied x start.args.s.now) told)
+    let told : Edition.Known lim.lim.given.0.0 ≡ edition_of (length start.args.s.now) = sym lim.lim.given.1 ∙ edition-of.edition-of.ensures in
+    (ap empty_in told, write-empty.write-empty.ensures ∙ ap (λ (x : Edition). emptied x start.args.s.now) told)
 
 returns-2 : tie.Need-returns-2
-unfolding emptyIn emptied
+unfolding empty_in emptied
 returns-2 c =
     let edition-of = c.before.before in
     let start = edition-of.before.before in
-    let told : Unknown ≡ editionOf (length start.args.s.now) = sym c.enum_told.given.1 ∙ edition-of.edition-of.ensures in
-    (ap emptyIn told, ap (λ (x : Edition). emptied x start.args.s.now) told)
+    let told : Unknown ≡ edition_of (length start.args.s.now) = sym c.enum_told.given.1 ∙ edition-of.edition-of.ensures in
+    (ap empty_in told, ap (λ (x : Edition). emptied x start.args.s.now) told)
 
 pub empty-spec : {M : Type 1} → statement M
 empty-spec =

@@ -4,8 +4,8 @@ use mathlib.Core.Path.{sym, ap, ◌∙◌}
 use lib.ListN.{length}
 use Prim.Native.Nat.{◌-◌}
 use Rattle.store.specs.declared.Edition.{Edition}
-use Rattle.store.specs.Search.{findIn, find}
-use Rattle.store.proofs.SearchLaws.{editionOf-says}
+use Rattle.store.specs.Search.{find_in, find}
+use Rattle.store.proofs.SearchLaws.{edition_of-says}
 use borrow.Author.Rules.{rules}
 use Rattle.store.proofs.find.Statement.{statement}
 use Rattle.store.proofs.find.Tie as tie
@@ -21,7 +21,7 @@ find-in-requires c κs =
     let lim = c.before in
     let edition-of = lim.before.before in
     let start = edition-of.before.before in
-    (editionOf-says (length start.args.s.now) lim.lim.given.0.0 (sym edition-of.edition-of.ensures ∙ lim.lim.given.1)).0
+    (edition_of-says (length start.args.s.now) lim.lim.given.0.0 (sym edition-of.edition-of.ensures ∙ lim.lim.given.1)).0
 
 enum_told : tie.Need-enum-told
 enum_told c = search rules
@@ -33,15 +33,15 @@ returns c =
     let edition-of = lim.before.before in
     let start = edition-of.before.before in
     let a = start.args in
-    c.find-in.ensures ∙ ap (λ (x : Edition). findIn x a.s.now a.peer a.t) (sym lim.lim.given.1 ∙ edition-of.edition-of.ensures)
+    c.find-in.ensures ∙ ap (λ (x : Edition). find_in x a.s.now a.peer a.t) (sym lim.lim.given.1 ∙ edition-of.edition-of.ensures)
 
 returns-2 : tie.Need-returns-2
-unfolding find findIn
+unfolding find find_in
 returns-2 c =
     let edition-of = c.before.before in
     let start = edition-of.before.before in
     let a = start.args in
-    ap (λ (x : Edition). findIn x a.s.now a.peer a.t) (sym c.enum_told.given.1 ∙ edition-of.edition-of.ensures)
+    ap (λ (x : Edition). find_in x a.s.now a.peer a.t) (sym c.enum_told.given.1 ∙ edition-of.edition-of.ensures)
 
 pub find_spec : {M : Type 1} → statement M
 find_spec =

@@ -5,7 +5,7 @@ use lib.ListN.{length, take, drop}
 use Prim.Native.Nat.{ℕ, ◌+◌, ◌-◌, ◌*◌}
 use native.Mathlib.Omega.{arith}
 use Rattle.octets.specs.Bytes.{part}
-use Rattle.store.proofs.SearchLaws.{kmac-long}
+use Rattle.store.proofs.SearchLaws.{kmac_long}
 use borrow.Author.Rules.{rules}
 use Rattle.store.proofs.kmac_at.Statement.{statement}
 use Rattle.store.proofs.kmac_at.Tie as tie
@@ -41,7 +41,7 @@ returns c =
     let a : ℕ = 12 + 44 * (args.place - 1) + 8 in
     let e : a + 24 - a ≡ 24 = omega arith in
     let is = ap (λ (n : ℕ). take n (drop a args.s.now)) e in
-    (is, ap length is ∙ kmac-long args.s.now args.place c.before.requires)
+    (is, ap length is ∙ kmac_long args.s.now args.place c.before.requires)
 
 pub kmac-at-spec : {M : Type 1} → statement M
 kmac-at-spec =

@@ -3,25 +3,25 @@
 use mathlib.Core.Path.{◌≡◌, refl}
 use lib.ListN.{get_or, drop, length-take}
 use Rattle.octets.specs.Bytes.{same}
-use Rattle.octets.proofs.BoolLaws.{test-holds, test-fails}
-use Rattle.units.specs.Units.{arMac, firstFault, arFault}
+use Rattle.octets.proofs.BoolLaws.{test-holds, test_fails}
+use Rattle.units.specs.Units.{ar_mac, first_fault, ar_fault}
 use Rattle.units.proofs.TestLaws.{agrees, differs, ar-judged}
 use borrow.Author.Rules.{rules}
 use native.Mathlib.Omega.{arith}
 use Rattle.units.proofs.ar_fault.Statement.{statement}
 use Rattle.units.proofs.ar_fault.Tie as tie
 
-mac-right : (k : tie.After-mac-is)
+mac_right_lem : (k : tie.After-mac-is)
     → let a = k.before.before.before.before.before.before.args in
-    k.mac-is.result ≡ same (arMac a.key a.own (get_or a.unit.now 0 0)) (drop 1 a.unit.now)
-mac-right k =
+    k.mac-is.result ≡ same (ar_mac a.key a.own (get_or a.unit.now 0 0)) (drop 1 a.unit.now)
+mac_right_lem k =
     let id = k.before.before.before in
     let long = id.before in
     let a = long.before.before.args in
     ar-judged a.key id.etcs-id.result a.unit.now a.own k.mac-is.result (omega (arith, long.if1.false)) id.etcs-id.ensures k.mac-is.ensures
 
 returns : tie.Need-returns
-unfolding arFault firstFault
+unfolding ar_fault first_fault
 returns c = simp (differs refl c.if1.true)
 
 etcs-id-requires : tie.Need-etcs-id-requires
@@ -43,11 +43,11 @@ mac-is-requires : tie.Need-mac-is-requires
 mac-is-requires c κs = search rules
 
 returns-2 : tie.Need-returns-2
-unfolding arFault firstFault
+unfolding ar_fault first_fault
 returns-2 c =
     let seal = c.before in
     let long = seal.before.before.before.before in
-    simp (agrees refl long.if1.false, test-fails seal.mac-is.result (mac-right seal) c.if2.true)
+    simp (agrees refl long.if1.false, test_fails seal.mac-is.result (mac_right_lem seal) c.if2.true)
 
 shared-slice-read-header-fault : tie.Need-shared-slice-read-header-fault
 shared-slice-read-header-fault c = search rules
@@ -56,11 +56,11 @@ header-fault-requires : tie.Need-header-fault-requires
 header-fault-requires c κs = search rules
 
 returns-3 : tie.Need-returns-3
-unfolding arFault firstFault
+unfolding ar_fault first_fault
 returns-3 c =
     let seal = c.before.before.before in
     let long = seal.before.before.before.before in
-    simp (agrees refl long.if1.false, test-holds seal.mac-is.result (mac-right seal) c.before.before.if2.false) c.header-fault.ensures
+    simp (agrees refl long.if1.false, test-holds seal.mac-is.result (mac_right_lem seal) c.before.before.if2.false) c.header-fault.ensures
 
 pub ar-fault-spec : {M : Type 1} → statement M
 ar-fault-spec =

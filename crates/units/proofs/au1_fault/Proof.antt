@@ -1,14 +1,14 @@
 -- `units::au1_fault` meets its contract.
 -- Assumes nothing.
 use mathlib.Core.Path.{refl}
-use Rattle.units.specs.Units.{au1Fault, firstFault}
+use Rattle.units.specs.Units.{au1_fault, first_fault}
 use Rattle.units.proofs.TestLaws.{agrees, differs}
 use borrow.Author.Rules.{rules}
 use Rattle.units.proofs.au1_fault.Statement.{statement}
 use Rattle.units.proofs.au1_fault.Tie as tie
 
 returns : tie.Need-returns
-unfolding au1Fault firstFault
+unfolding au1_fault first_fault
 returns c = simp (differs refl c.if1.true)
 
 shared-slice-read-mti : tie.Need-shared-slice-read-mti
@@ -18,7 +18,7 @@ mti-requires : tie.Need-mti-requires
 mti-requires c κs = search rules
 
 returns-2 : tie.Need-returns-2
-unfolding au1Fault firstFault
+unfolding au1_fault first_fault
 returns-2 c =
     let first = c.before.before.before in
     simp (agrees refl first.if1.false, differs c.before.mti.ensures c.if2.true)
@@ -30,7 +30,7 @@ df-requires : tie.Need-df-requires
 df-requires c κs = search rules
 
 returns-3 : tie.Need-returns-3
-unfolding au1Fault firstFault
+unfolding au1_fault first_fault
 returns-3 c =
     let second = c.before.before.before in
     let first = second.before.before.before in
@@ -40,7 +40,7 @@ shared-slice-read-if4 : tie.Need-shared-slice-read-if4
 shared-slice-read-if4 c = search rules
 
 returns-4 : tie.Need-returns-4
-unfolding au1Fault firstFault
+unfolding au1_fault first_fault
 returns-4 c =
     let third = c.before.before in
     let second = third.before.before.before in
@@ -53,7 +53,7 @@ returns-4 c =
     )
 
 returns-5 : tie.Need-returns-5
-unfolding au1Fault firstFault
+unfolding au1_fault first_fault
 returns-5 c =
     let third = c.before.before in
     let second = third.before.before.before in

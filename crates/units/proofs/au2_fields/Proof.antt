@@ -1,14 +1,14 @@
 -- `units::au2_fields` meets its contract.
 -- Assumes nothing.
 use mathlib.Core.Path.{refl}
-use Rattle.units.specs.Units.{au2Fields, firstFault}
+use Rattle.units.specs.Units.{au2_fields, first_fault}
 use Rattle.units.proofs.TestLaws.{agrees, differs}
 use borrow.Author.Rules.{rules}
 use Rattle.units.proofs.au2_fields.Statement.{statement}
 use Rattle.units.proofs.au2_fields.Tie as tie
 
 returns : tie.Need-returns
-unfolding au2Fields firstFault
+unfolding au2_fields first_fault
 returns c = simp (differs refl c.if1.true)
 
 shared-slice-read-mti : tie.Need-shared-slice-read-mti
@@ -18,7 +18,7 @@ mti-requires : tie.Need-mti-requires
 mti-requires c κs = search rules
 
 returns-2 : tie.Need-returns-2
-unfolding au2Fields firstFault
+unfolding au2_fields first_fault
 returns-2 c =
     let first = c.before.before.before in
     simp (agrees refl first.if1.false, differs c.before.mti.ensures c.if2.true)
@@ -27,7 +27,7 @@ sender-of-requires : tie.Need-sender-of-requires
 sender-of-requires c κs = search rules
 
 returns-3 : tie.Need-returns-3
-unfolding au2Fields firstFault
+unfolding au2_fields first_fault
 returns-3 c =
     let second = c.before.before in
     let first = second.before.before.before in
@@ -37,7 +37,7 @@ shared-slice-read-if4 : tie.Need-shared-slice-read-if4
 shared-slice-read-if4 c = search rules
 
 returns-4 : tie.Need-returns-4
-unfolding au2Fields firstFault
+unfolding au2_fields first_fault
 returns-4 c =
     let third = c.before.before in
     let second = third.before.before in
@@ -50,7 +50,7 @@ returns-4 c =
     )
 
 returns-5 : tie.Need-returns-5
-unfolding au2Fields firstFault
+unfolding au2_fields first_fault
 returns-5 c =
     let third = c.before.before in
     let second = third.before.before in

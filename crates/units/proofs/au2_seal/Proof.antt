@@ -3,18 +3,18 @@
 use mathlib.Core.Path.{◌≡◌}
 use lib.ListN.{take, drop, length-take}
 use Rattle.octets.specs.Bytes.{same}
-use Rattle.octets.proofs.BoolLaws.{test-holds, test-fails}
-use Rattle.units.specs.Units.{au2Mac, firstFault, au2Seal}
+use Rattle.octets.proofs.BoolLaws.{test-holds, test_fails}
+use Rattle.units.specs.Units.{au2_mac, first_fault, au2_seal}
 use Rattle.units.proofs.TestLaws.{agrees, differs, au2-judged}
 use borrow.Author.Rules.{rules}
 use native.Mathlib.Omega.{arith}
 use Rattle.units.proofs.au2_seal.Statement.{statement}
 use Rattle.units.proofs.au2_seal.Tie as tie
 
-mac-right : (k : tie.After-mac-is)
+mac_right_lem : (k : tie.After-mac-is)
     → let a = k.before.before.before.before.before.before.before.args in
-    k.mac-is.result ≡ same (au2Mac a.key a.own a.rb (take 13 a.unit.now)) (drop 13 a.unit.now)
-mac-right k =
+    k.mac-is.result ≡ same (au2_mac a.key a.own a.rb (take 13 a.unit.now)) (drop 13 a.unit.now)
+mac_right_lem k =
     let id = k.before.before.before in
     let m = id.before in
     let a = m.before.before.before.args in
@@ -45,8 +45,8 @@ mac-is-requires : tie.Need-mac-is-requires
 mac-is-requires c κs = search rules
 
 returns : tie.Need-returns
-unfolding au2Seal firstFault
-returns c = simp (test-fails c.before.mac-is.result (mac-right c.before) c.if1.true)
+unfolding au2_seal first_fault
+returns c = simp (test_fails c.before.mac-is.result (mac_right_lem c.before) c.if1.true)
 
 shared-slice-read-df : tie.Need-shared-slice-read-df
 shared-slice-read-df c = search rules
@@ -55,16 +55,16 @@ df-requires : tie.Need-df-requires
 df-requires c κs = search rules
 
 returns-2 : tie.Need-returns-2
-unfolding au2Seal firstFault
+unfolding au2_seal first_fault
 returns-2 c =
     let seal = c.before.before.before in
-    simp (test-holds seal.before.mac-is.result (mac-right seal.before) seal.if1.false, differs c.before.df.ensures c.if2.true)
+    simp (test-holds seal.before.mac-is.result (mac_right_lem seal.before) seal.if1.false, differs c.before.df.ensures c.if2.true)
 
 returns-3 : tie.Need-returns-3
-unfolding au2Seal firstFault
+unfolding au2_seal first_fault
 returns-3 c =
     let seal = c.before.before.before in
-    simp (test-holds seal.before.mac-is.result (mac-right seal.before) seal.if1.false, agrees c.before.df.ensures c.if2.false)
+    simp (test-holds seal.before.mac-is.result (mac_right_lem seal.before) seal.if1.false, agrees c.before.df.ensures c.if2.false)
 
 pub au2-seal-spec : {M : Type 1} → statement M
 au2-seal-spec =

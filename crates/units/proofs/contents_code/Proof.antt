@@ -1,14 +1,14 @@
 -- `units::contents_code` meets its contract.
 -- Assumes nothing.
 use borrow.Author.Tests.{le-leb, lt-leb}
-use Rattle.units.specs.Units.{contentsCode}
+use Rattle.units.specs.Units.{contents_code}
 use Rattle.units.proofs.TestLaws.{agrees, differs}
 use borrow.Author.Rules.{rules}
 use Rattle.units.proofs.contents_code.Statement.{statement}
 use Rattle.units.proofs.contents_code.Tie as tie
 
 returns : tie.Need-returns
-unfolding contentsCode
+unfolding contents_code
 returns c = simp (lt-leb _ _ c.if1.true)
 
 shared-slice-read-mti : tie.Need-shared-slice-read-mti
@@ -18,7 +18,7 @@ mti-requires : tie.Need-mti-requires
 mti-requires c κs = search rules
 
 returns-2 : tie.Need-returns-2
-unfolding contentsCode
+unfolding contents_code
 returns-2 c =
     let first = c.before.before.before in
     simp (le-leb _ _ first.if1.false, differs c.before.mti.ensures c.if2.true)
@@ -30,14 +30,14 @@ ety-requires : tie.Need-ety-requires
 ety-requires c κs = search rules
 
 returns-3 : tie.Need-returns-3
-unfolding contentsCode
+unfolding contents_code
 returns-3 c =
     let second = c.before.before.before in
     let first = second.before.before.before in
     simp (le-leb _ _ first.if1.false, agrees second.before.mti.ensures second.if2.false, differs c.before.ety.ensures c.if3.true)
 
 returns-4 : tie.Need-returns-4
-unfolding contentsCode
+unfolding contents_code
 returns-4 c =
     let third = c.before in
     let second = third.before.before.before in
@@ -50,7 +50,7 @@ returns-4 c =
     )
 
 returns-5 : tie.Need-returns-5
-unfolding contentsCode
+unfolding contents_code
 returns-5 c =
     let third = c.before in
     let second = third.before.before.before in

@@ -9,9 +9,9 @@ use Rattle.octets.specs.Bytes.{number}
 use Rattle.des.specs.Bits.{bits}
 use Rattle.fast_des.specs.declared.Halves.{Halves}
 use Rattle.fast_des.specs.Inside.{Entered}
-use Rattle.authentication.specs.Mac.{block, chain, macString}
+use Rattle.authentication.specs.Mac.{block, chain, mac_string}
 use Rattle.authentication.proofs.PairLaws.{length-string}
-use Rattle.authentication.proofs.MacLaws.{chain-start, block-entered, chain-step}
+use Rattle.authentication.proofs.MacLaws.{chain-start, block_entered, chain-step}
 use borrow.Author.Rules.{rules}
 use Rattle.authentication.proofs.cbc.chain_halves.Statement.{statement}
 use Rattle.authentication.proofs.cbc.chain_halves.Tie as tie
@@ -23,7 +23,7 @@ record Kept (k1 s : List ℕ) (last : ℕ) (h b : Halves) (k : ℕ) : Type 0 whe
   ready : Entered b (block s k)
 
 abbrev invariant-loop : tie.invariant-loop
-invariant-loop key destination m groups table keys last h₀ b₀ k₀ h b k = Kept (block key 0) (macString destination m) last h b k
+invariant-loop key destination m groups table keys last h₀ b₀ k₀ h b k = Kept (block key 0) (mac_string destination m) last h b k
 
 abbrev decreases-loop : tie.decreases-loop
 decreases-loop key destination m groups table keys last h₀ b₀ k₀ h b k = last - k
@@ -52,11 +52,11 @@ abbrev entry : tie.After-blocks2 invariant-loop decreases-loop → tie.Start inv
 entry c = c.before.before.before.before.before.before
 
 -- a block of the string, as string_word and enter give it
-prepared : (c : tie.After-blocks2 invariant-loop decreases-loop) (k x : ℕ) (b : Halves) → let a = (entry c).args in k < c.blocks2.result → x ≡ number 8 (macString a.destination a.m.now) (8 * k)
-    → Entered b (bits 64 x) → Entered b (block (macString a.destination a.m.now) k)
+prepared : (c : tie.After-blocks2 invariant-loop decreases-loop) (k x : ℕ) (b : Halves) → let a = (entry c).args in k < c.blocks2.result → x ≡ number 8 (mac_string a.destination a.m.now) (8 * k)
+    → Entered b (bits 64 x) → Entered b (block (mac_string a.destination a.m.now) k)
 prepared c k x b h e i =
     let a = (entry c).args in
-    block-entered (macString a.destination a.m.now) k x b (omega (arith, length-string a.destination a.m.now (entry c).well-formed.1.0.1.0.1, c.blocks2.ensures)) e i
+    block_entered (mac_string a.destination a.m.now) k x b (omega (arith, length-string a.destination a.m.now (entry c).well-formed.1.0.1.0.1, c.blocks2.ensures)) e i
 
 loop-holds : tie.Need-loop-init invariant-loop decreases-loop
 loop-holds c =
@@ -66,7 +66,7 @@ loop-holds c =
     let a = (entry n).args in
     record {
       most = omega arith;
-      chained = chain-start (block a.key.now 0) (macString a.destination a.m.now) zero.enter.result zero.enter.ensures;
+      chained = chain-start (block a.key.now 0) (mac_string a.destination a.m.now) zero.enter.result zero.enter.ensures;
       ready = prepared n 0 word.string-word.result c.enter2.result (omega arith) word.string-word.ensures c.enter2.ensures;
     }
 
@@ -105,7 +105,7 @@ loop-again c =
     record {
       most = omega arith;
       chained =
-          chain-step (block a.key.now 0) (macString a.destination a.m.now) keys.result l.loop.k l.loop.h l.loop.b sum.add.result c.encipher-halves.result
+          chain-step (block a.key.now 0) (mac_string a.destination a.m.now) keys.result l.loop.k l.loop.h l.loop.b sum.add.result c.encipher-halves.result
           keys.ensures l.loop.invariant.chained l.loop.invariant.ready sum.add.ensures c.encipher-halves.ensures;
       ready = prepared n (l.loop.k + 1) word.string-word2.result next.enter3.result (omega arith) word.string-word2.ensures next.enter3.ensures;
     }
@@ -124,8 +124,8 @@ returns c =
     let keys = n.before.schedule-at in
     let a = (entry n).args in
     let all : l.loop.k + 1 ≡ (length a.m.now + 12) / 8 = omega (arith, n.blocks2.ensures) in
-    subst (λ (k : ℕ). Entered c.encipher-halves2.result (chain (block a.key.now 0) (macString a.destination a.m.now) k)) all
-    (chain-step (block a.key.now 0) (macString a.destination a.m.now) keys.result l.loop.k l.loop.h l.loop.b sum.add2.result c.encipher-halves2.result
+    subst (λ (k : ℕ). Entered c.encipher-halves2.result (chain (block a.key.now 0) (mac_string a.destination a.m.now) k)) all
+    (chain-step (block a.key.now 0) (mac_string a.destination a.m.now) keys.result l.loop.k l.loop.h l.loop.b sum.add2.result c.encipher-halves2.result
     keys.ensures l.loop.invariant.chained l.loop.invariant.ready sum.add2.ensures c.encipher-halves2.ensures)
 
 pub chain-halves-spec : {M : Type 1} → statement M

@@ -1,7 +1,7 @@
 -- `authentication::cbc::mac_word` meets its contract.
 -- Assumes nothing.
 use Prim.Native.Nat.{◌-◌}
-use Rattle.authentication.proofs.MacLaws.{mac-of}
+use Rattle.authentication.proofs.MacLaws.{mac_of_lem}
 use borrow.Author.Rules.{rules}
 use Rattle.authentication.proofs.cbc.mac_word.Statement.{statement}
 use Rattle.authentication.proofs.cbc.mac_word.Tie as tie
@@ -59,7 +59,7 @@ returns c =
     let tables = first.before.before.before in
     let start = tables.before.before.before.before in
     let a = start.args in
-    mac-of a.key.now a.destination a.m.now second.schedule-at.result third.schedule-at2.result h.result d.result e.result c.leave.result start.well-formed.1.0.1.0.1
+    mac_of_lem a.key.now a.destination a.m.now second.schedule-at.result third.schedule-at2.result h.result d.result e.result c.leave.result start.well-formed.1.0.1.0.1
     h.ensures second.schedule-at.ensures d.ensures third.schedule-at2.ensures e.ensures c.leave.ensures
 
 pub mac-word-spec : {M : Type 1} → statement M

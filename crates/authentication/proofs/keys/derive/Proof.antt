@@ -2,7 +2,7 @@
 -- Assumes nothing.
 use mathlib.Core.Path.{◌∙◌}
 use Prim.Native.Nat.{◌-◌}
-use Rattle.authentication.proofs.KeyLaws.{derived-of}
+use Rattle.authentication.proofs.KeyLaws.{derived_of}
 use borrow.Author.Rules.{rules}
 use Rattle.authentication.proofs.keys.derive.Statement.{statement}
 use Rattle.authentication.proofs.keys.derive.Tie as tie
@@ -38,7 +38,7 @@ returns c =
     let a = first.before.before.args in
     let w = draw.draw.result in
     c.set-parity.ensures
-    ∙ derived-of a.kmac.now a.ra a.rb c.before.join.result first.load.result second.load2.result left.lefts.result right.rights.result w.one w.two w.three
+    ∙ derived_of a.kmac.now a.ra a.rb c.before.join.result first.load.result second.load2.result left.lefts.result right.rights.result w.one w.two w.three
     first.load.ensures second.load2.ensures left.lefts.ensures right.rights.ensures draw.draw.ensures c.before.join.ensures
 
 pub derive-spec : {M : Type 1} → statement M

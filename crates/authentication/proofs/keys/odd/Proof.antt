@@ -1,7 +1,7 @@
 -- `authentication::keys::odd` meets its contract.
 -- Assumes nothing.
 use Prim.Native.Nat.{◌-◌}
-use Rattle.authentication.proofs.KeyLaws.{odd-of}
+use Rattle.authentication.proofs.KeyLaws.{odd_of}
 use borrow.Author.Rules.{rules}
 use native.Mathlib.Omega.{arith}
 use Rattle.authentication.proofs.keys.odd.Statement.{statement}
@@ -14,7 +14,7 @@ cast-result : tie.Need-overflow-cast-result
 cast-result c = search rules
 
 returns : tie.Need-returns
-returns c = odd-of c.args.b (omega arith)
+returns c = odd_of c.args.b (omega arith)
 
 pub odd-spec : {M : Type 1} → statement M
 odd-spec = tie.close (tie.spec add_low cast-result returns)

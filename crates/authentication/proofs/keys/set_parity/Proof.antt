@@ -5,7 +5,7 @@ use mathlib.Core.List.{map}
 use Prim.Native.Nat.{◌-◌, ◌≤◌}
 use lib.ListN.{length, take, length-set}
 use Rattle.authentication.specs.Keys.{odd}
-use Rattle.authentication.proofs.KeyLaws.{parity-turn}
+use Rattle.authentication.proofs.KeyLaws.{parity_turn}
 use lib.Seq.{take_all}
 use native.Mathlib.Omega.{arith}
 use Rattle.authentication.proofs.keys.set_parity.Statement.{statement}
@@ -42,7 +42,7 @@ loop-again c =
     let d = s.args.t1 in
     let n : length d ≡ 24 = s.well-formed.0.1.0.1 in (
       omega arith,
-      (simp length-set l.loop.invariant.1.0, parity-turn d l.loop.r l.loop.i c.odd.result (omega arith) (omega arith) c.odd.ensures l.loop.invariant.1.1),
+      (simp length-set l.loop.invariant.1.0, parity_turn d l.loop.r l.loop.i c.odd.result (omega arith) (omega arith) c.odd.ensures l.loop.invariant.1.1),
     )
 
 returns : tie.Need-returns invariant-loop decreases-loop

@@ -4,7 +4,7 @@ use mathlib.Core.List.{List}
 use Prim.Native.Nat.{ℕ}
 use Rattle.fast_des.specs.declared.Halves.{Halves}
 use Rattle.des.specs.Bits.{bits}
-use Rattle.des.specs.Des.{encipherBits, decipherBits}
+use Rattle.des.specs.Des.{encipher_bits, decipher_bits}
 use Rattle.fast_des.specs.Inside.{Entered, Leaves, EnciphersInside, DeciphersInside}
 use Rattle.authentication.specs.Keys.{triple, Triples}
 use borrow.Author.Rules.{rules}
@@ -41,9 +41,9 @@ unfolding triple
 through k1 k2 k3 x r h a b d e p q s out =
     record {
       by = λ u v w hu hv hw.
-          let first = encipherBits u (bits 64 x) in
-          let second = decipherBits v first in
-          out.by (encipherBits w second) (s.by w second hw (q.by v first hv (p.by u (bits 64 x) hu e)));
+          let first = encipher_bits u (bits 64 x) in
+          let second = decipher_bits v first in
+          out.by (encipher_bits w second) (s.by w second hw (q.by v first hv (p.by u (bits 64 x) hu e)));
     }
 
 returns : tie.Need-returns

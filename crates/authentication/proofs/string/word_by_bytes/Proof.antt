@@ -5,14 +5,14 @@ use Prim.Native.Nat.{ℕ, ◌+◌, ◌-◌, ◌*◌, ◌^◌, ◌≤◌, ◌<◌
 use lib.ListN.{get_or}
 use Rattle.octets.specs.Bytes.{number}
 use Rattle.octets.proofs.NumberLaws.{number_more, word_room, word-grow}
-use Rattle.authentication.specs.Mac.{macString}
+use Rattle.authentication.specs.Mac.{mac_string}
 use Rattle.authentication.proofs.StringLaws.{string-at}
 use native.Mathlib.Omega.{arith}
 use Rattle.authentication.proofs.string.word_by_bytes.Statement.{statement}
 use Rattle.authentication.proofs.string.word_by_bytes.Tie as tie
 
 abbrev invariant-loop : tie.invariant-loop
-invariant-loop k destination m r₀ i₀ r i = (i ≤ 8) × ((r < 2 ^ (8 * i)) × (r ≡ number i (macString destination m) (8 * k)))
+invariant-loop k destination m r₀ i₀ r i = (i ≤ 8) × ((r < 2 ^ (8 * i)) × (r ≡ number i (mac_string destination m) (8 * k)))
 
 abbrev decreases-loop : tie.decreases-loop
 decreases-loop k destination m r₀ i₀ r i = 8 - i
@@ -49,7 +49,7 @@ loop-again c =
     let l = c.before.before in
     let a = l.before.before.args in
     let x = c.string-byte.result in
-    let s = macString a.destination a.m.now in
+    let s = mac_string a.destination a.m.now in
     let at : x ≡ get_or s (8 * a.k + l.loop.i) 0 = c.string-byte.ensures.0 ∙ sym (string-at a.destination a.m.now (8 * a.k + l.loop.i)) in (
       omega arith,
       (
@@ -63,7 +63,7 @@ returns c =
     let l = c.before in
     let a = l.before.before.args in
     let e : l.loop.i ≡ 8 = omega arith in
-    l.loop.invariant.1.1 ∙ ap (λ (n : ℕ). number n (macString a.destination a.m.now) (8 * a.k)) e
+    l.loop.invariant.1.1 ∙ ap (λ (n : ℕ). number n (mac_string a.destination a.m.now) (8 * a.k)) e
 
 pub word-by-bytes-spec : {M : Type 1} → statement M
 word-by-bytes-spec =

@@ -24,7 +24,7 @@ returns-2 : tie.Need-returns-2
 returns-2 c =
     let u = c.before.before.before.before.args.unit.now in
     let l : 10 ≤ length u = omega (arith, c.before.before.if1.false) in
-    simp (le-leb 10 (length u) l) c.header-right.ensures
+    simp (le-leb 10 (length u) l) c.header_right.ensures
 
 pub contents-right-spec : {M : Type 1} → statement M
 contents-right-spec =

@@ -6,7 +6,7 @@ use lib.ListN.{length, take, drop, length-take, length-drop}
 use lib.Seq.{take_all}
 use Rattle.octets.specs.Bytes.{same}
 use Rattle.authentication.specs.Mac.{mac}
-use Rattle.authentication.specs.Unit.{body, macOf}
+use Rattle.authentication.specs.Unit.{body, mac_of}
 use borrow.Author.Rules.{rules}
 use native.Mathlib.Omega.{arith}
 use Rattle.authentication.proofs.unit.mac_right.Statement.{statement}
@@ -33,7 +33,7 @@ is-mac-requires : tie.Need-is-mac-requires
 is-mac-requires c κs = search rules
 
 returns : tie.Need-returns
-unfolding body macOf
+unfolding body mac_of
 returns c =
     let a = c.before.before.before.before.before.args in
     let u = a.unit.now in

@@ -2,7 +2,7 @@
 -- Assumes nothing.
 use mathlib.Core.Path.{ap₂, ◌∙◌}
 use Prim.Native.Nat.{ℕ}
-use Rattle.connection_buffer.specs.ConnectionBuffer.{eventsWith}
+use Rattle.connection_buffer.specs.ConnectionBuffer.{events_with}
 use borrow.Author.Rules.{rules}
 use Rattle.connection_buffer.proofs.buffers.events_of.Statement.{statement}
 use Rattle.connection_buffer.proofs.buffers.events_of.Tie as tie
@@ -22,7 +22,7 @@ returns c =
     let transport = timer.before in
     let a = transport.before.args in
     c.events-with.ensures
-    ∙ ap₂ (λ (x y : ℕ). eventsWith a.actions.user x y a.state) transport.transport-number.ensures timer.timer-number.ensures
+    ∙ ap₂ (λ (x y : ℕ). events_with a.actions.user x y a.state) transport.transport-number.ensures timer.timer-number.ensures
 
 pub events-of-spec : {M : Type 1} → statement M
 events-of-spec =

@@ -1,7 +1,7 @@
 -- `console::connections::brought` meets its contract.
 -- Assumes nothing.
 use Rattle.std.proofs.Common.{◌≡◌, ℕ, List, ap, ◌∙◌, rules}
-use Rattle.console.specs.Lent.{bytesIn}
+use Rattle.console.specs.Lent.{bytes_in}
 use Rattle.console.specs.Connections.{input_of, stepped as steppedBy}
 use Rattle.console.proofs.BenchLaws.{bytes_read}
 use Rattle.console.proofs.connections.brought.Statement.{statement}
@@ -37,7 +37,7 @@ returns c =
     let k = at.bytes-at.result in
     let read = bytes_read a.text.now word.word.result.now decode.decode.new.1.0 k decode.decode.result word.word.ensures decode.decode.ensures in
     c.stepped.ensures
-    ∙ ap (λ (x : List ℕ). steppedBy (input_of a.event a.side.own x a.store.now) a.side) (read ∙ ap (bytesIn a.text.now) at.bytes-at.ensures)
+    ∙ ap (λ (x : List ℕ). steppedBy (input_of a.event a.side.own x a.store.now) a.side) (read ∙ ap (bytes_in a.text.now) at.bytes-at.ensures)
 
 pub brought-spec : {M : Type 1} → statement M
 brought-spec =

@@ -5,7 +5,7 @@ use mathlib.Core.Path.{subst⁻¹}
 use Rattle.table.specs.declared.Connection.{Connection}
 use Rattle.table.specs.declared.Kind.{Kind}
 use Rattle.table.specs.declared.Stepped.{Stepped}
-use Rattle.table.specs.Steps.{Input, connectRequest, connectIndication, unitIndication, step, Does}
+use Rattle.table.specs.Steps.{Input, connect_request, connect_indication, unit_indication, step, Does}
 use Rattle.lines.specs.declared.connections.Event.{Event}
 use Rattle.lines.specs.declared.connections.Event.TheVariants as event
 use Rattle.console.specs.Connections.{input_of}
@@ -107,7 +107,7 @@ returns c =
     let at = rb.before.before.before.before in
     let a = at.before.before.before.before.args in
     does at (event.Call told.0.0 told.0.1.0 told.0.1.1.0) _ told.1
-    (ap (λ (x : List ℕ). connectRequest true a.side.own told.0.0 told.0.1.0 x a.store.now) rb.store.ensures)
+    (ap (λ (x : List ℕ). connect_request true a.side.own told.0.0 told.0.1.0 x a.store.now) rb.store.ensures)
     call.request.ensures
 
 same-length-2 : tie.Need-same-length-2
@@ -121,7 +121,7 @@ returns-2 c =
     let at = ra.before.before.before.before in
     let a = at.before.before.before.before.args in
     does at (event.Indicate told.0.0 told.0.1.0) _ told.1
-    (ap (λ (x : List ℕ). connectIndication true a.side.own told.0.0 x a.bytes.now a.store.now) ra.store2.ensures)
+    (ap (λ (x : List ℕ). connect_indication true a.side.own told.0.0 x a.bytes.now a.store.now) ra.store2.ensures)
     call.indicated.ensures
 
 same-length-3 : tie.Need-same-length-3
@@ -143,7 +143,7 @@ returns-4 c =
     let told = kind.before.before.event3.given in
     let at = kind.before.before.before.before in
     let a = at.before.before.before.before.args in
-    does at (event.Bring told.0.0) _ told.1 (ap (λ (x : Kind). unitIndication x a.bytes.now) kind.kind-numbered.ensures) call.unit.ensures
+    does at (event.Bring told.0.0) _ told.1 (ap (λ (x : Kind). unit_indication x a.bytes.now) kind.kind-numbered.ensures) call.unit.ensures
 
 same-length-5 : tie.Need-same-length-5
 same-length-5 c = search rules

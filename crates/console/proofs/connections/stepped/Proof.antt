@@ -26,7 +26,7 @@ returns : tie.Need-returns
 returns c =
     let step = c.before.before.before.before in
     let a = step.before.before.before.before.args in
-    ap (changed a.side) step.step_of_lem.ensures.connection-is
+    ap (changed a.side) step.step_of_lem.ensures.connection_is
 
 pub stepped-spec : {M : Type 1} → statement M
 stepped-spec =

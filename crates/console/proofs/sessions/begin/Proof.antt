@@ -1,8 +1,8 @@
 -- `console::sessions::begin` meets its contract.
 -- Assumes nothing.
 use Rattle.std.proofs.Common.{sym, ap, ◌∙◌, rules}
-use Rattle.session.specs.Sessions.{Beginning, begunAs}
-use Rattle.runs.specs.Calls.{sessionOf}
+use Rattle.session.specs.Sessions.{Beginning, begun_as}
+use Rattle.runs.specs.Calls.{session_of}
 use Rattle.console.proofs.sessions.begin.Statement.{statement}
 use Rattle.console.proofs.sessions.begin.Tie as tie
 
@@ -38,13 +38,13 @@ returns c =
     let told = c.before.before.before.before.before in
     let begin = told.before.before.before in
     let a = begin.before.before.args in
-    ap (λ (b : Beginning). sessionOf b a.session) (sym (ap begunAs told.made.given.1) ∙ begin.begin.ensures.answer)
+    ap (λ (b : Beginning). session_of b a.session) (sym (ap begun_as told.made.given.1) ∙ begin.begin.ensures.answer)
 
 returns-2 : tie.Need-returns-2
 returns-2 c =
     let begin = c.before.before.before.before.before in
     let a = begin.before.before.args in
-    ap (λ (b : Beginning). sessionOf b a.session) (sym (ap begunAs c.before.before.h.given.1) ∙ begin.begin.ensures.answer)
+    ap (λ (b : Beginning). session_of b a.session) (sym (ap begun_as c.before.before.h.given.1) ∙ begin.begin.ensures.answer)
 
 pub begin-spec : {M : Type 1} → statement M
 begin-spec =

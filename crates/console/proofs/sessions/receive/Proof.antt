@@ -3,7 +3,7 @@
 use Rattle.std.proofs.Common.{◌≡◌, ℕ, List, take, sym, ap, ◌∙◌, ap₂, rules}
 use Rattle.session.specs.Rules.{receive as outcome}
 use Rattle.console.specs.Lent.{output}
-use Rattle.console.specs.Bench.{storeOf}
+use Rattle.console.specs.Bench.{store_of}
 use Rattle.console.proofs.BenchLaws.{bytes_read, front_length, front-held}
 use Rattle.console.proofs.sessions.receive.Statement.{statement}
 use Rattle.console.proofs.sessions.receive.Tie as tie
@@ -61,9 +61,9 @@ returns c =
     let n = size.size.result in
     let d = receive.receive.ensures in
     let m = bytes_read a.text.now word.word.result.now decode.decode.new.1.0 1 decode.decode.result word.word.ensures decode.decode.ensures in
-    let s : take n a.store.now ≡ storeOf a.large a.store.now = ap (λ (k : ℕ). take k a.store.now) size.size.ensures.0 in
+    let s : take n a.store.now ≡ store_of a.large a.store.now = ap (λ (k : ℕ). take k a.store.now) size.size.ensures.0 in
     let l = front_length a.large n a.store.now size.size.ensures start.requires in (
-      d.session-is ∙ ap₂ (λ (x t : List ℕ). (outcome a.session x t output).session) m s,
+      d.session_is ∙ ap₂ (λ (x t : List ℕ). (outcome a.session x t output).session) m s,
       front-held a.large n receive.receive.new.1.1.0 _ size.size.ensures (receive.receive.auto.1.1.0 ∙ sym l)
           ∙ d.store_is
           ∙ ap₂ (λ (x t : List ℕ). (outcome a.session x t output).store) m s,

@@ -1,10 +1,10 @@
 -- `console::show::records` is safe and ends.
 -- Assumes nothing.
 use Rattle.std.proofs.Common.{◌≡◌, ℕ, ◌+◌, ◌-◌, ◌≤◌, true, length, ap, ◌∙◌, arith}
-use Rattle.store.specs.Layout.{editionOf}
-use Rattle.store.specs.Store.{keyCount}
-use Rattle.runs.specs.Alike.{isSound}
-use Rattle.records.proofs.Theorems.{held_in}
+use Rattle.store.specs.Layout.{edition_of}
+use Rattle.store.specs.Store.{key_count}
+use Rattle.runs.specs.Alike.{is_sound}
+use Rattle.records.proofs.Theorems.{held_in_lem}
 use Rattle.store.proofs.SoundLaws.{sound-says}
 use Rattle.store.proofs.SearchLaws.{room}
 use Rattle.records.specs.declared.Record.{Record}
@@ -12,7 +12,7 @@ use Rattle.console.proofs.show.records.Statement.{statement}
 use Rattle.console.proofs.show.records.Tie as tie
 
 abbrev invariant-loop : tie.invariant-loop
-invariant-loop s n i₀ i = (i ≤ n) × (n ≡ keyCount s) × (isSound s ≡ true)
+invariant-loop s n i₀ i = (i ≤ n) × (n ≡ key_count s) × (is_sound s ≡ true)
 
 abbrev decreases-loop : tie.decreases-loop
 decreases-loop s n i₀ i = n - i
@@ -20,14 +20,14 @@ decreases-loop s n i₀ i = n - i
 number-at-requires : tie.Need-number-at-requires invariant-loop decreases-loop
 number-at-requires c κs =
     let start = c.before in
-    let p = held_in (editionOf (length start.args.s.now)) start.args.s.now start.requires in
+    let p = held_in_lem (edition_of (length start.args.s.now)) start.args.s.now start.requires in
     let w = sound-says p.0 start.args.s.now p.1 in
     omega arith
 
 number-at-requires-2 : tie.Need-number-at-requires-2 invariant-loop decreases-loop
 number-at-requires-2 c κs =
     let start = c.before.before in
-    let p = held_in (editionOf (length start.args.s.now)) start.args.s.now start.requires in
+    let p = held_in_lem (edition_of (length start.args.s.now)) start.args.s.now start.requires in
     let w = sound-says p.0 start.args.s.now p.1 in
     omega arith
 
@@ -44,9 +44,9 @@ record-at-requires c κs =
     let loop = c.before in
     let number = loop.before.before.before in
     let start = number.before.before in
-    let p = held_in (editionOf (length start.args.s.now)) start.args.s.now start.requires in
+    let p = held_in_lem (edition_of (length start.args.s.now)) start.args.s.now start.requires in
     let w = sound-says p.0 start.args.s.now p.1 in
-    (omega arith, omega (arith, w.size, w.keys-fit, loop.loop.invariant.1))
+    (omega arith, omega (arith, w.size, w.keys_fit, loop.loop.invariant.1))
 
 add-record : tie.Need-overflow-add-record invariant-loop decreases-loop
 add-record c = omega arith
@@ -62,12 +62,12 @@ peers-requires c κs =
     let known = number.before in
     let start = known.before in
     let s = start.args.s.now in
-    let p = held_in (editionOf (length s)) s start.requires in
+    let p = held_in_lem (edition_of (length s)) s start.requires in
     let w = sound-says p.0 s p.1 in
     let r = room p.0 s loop.loop.i (λ j. (known.shared-slice-known.given j).fits) p.1 (omega arith) in
     let f = ap (λ (x : Record). x.first) read.record-at.ensures in
     let n = ap (λ (x : Record). x.count) read.record-at.ensures in
-    (omega (arith, f, n, r.inside, r.framed.total-fits, r.framed.peers-fit), omega (arith, w.size), omega (arith, f, n, r.inside, w.size, w.peers-at, r.framed.peers-fit))
+    (omega (arith, f, n, r.inside, r.framed.total_fits, r.framed.peers_fit), omega (arith, w.size), omega (arith, f, n, r.inside, w.size, w.peers_at_lem, r.framed.peers_fit))
 
 add-i : tie.Need-overflow-add-i invariant-loop decreases-loop
 add-i c = omega arith

@@ -2,7 +2,7 @@
 -- Assumes nothing.
 use Rattle.std.proofs.Common.{Bool, not, sym, subst, rules}
 use Rattle.convert.specs.Convert.{Converts}
-use Rattle.console.specs.Bench.{limitsOf}
+use Rattle.console.specs.Bench.{limits_of}
 use Rattle.console.proofs.stores.convert_from.Statement.{statement}
 use Rattle.console.proofs.stores.convert_from.Tie as tie
 
@@ -20,7 +20,7 @@ returns c =
     let made = c.before.before in
     let if1 = made.before.before in
     let a = if1.before.before.before.args in
-    subst (λ (x : Bool). Converts (limitsOf x) (limitsOf (not x)) a.from.now a.to.now made.to-edition1.new.1.0 made.to-edition1.result) (sym if1.if1.true) made.to-edition1.ensures
+    subst (λ (x : Bool). Converts (limits_of x) (limits_of (not x)) a.from.now a.to.now made.to_edition1.new.1.0 made.to_edition1.result) (sym if1.if1.true) made.to_edition1.ensures
 
 same-length-2 : tie.Need-same-length-2
 same-length-2 c = search rules
@@ -30,7 +30,7 @@ returns-2 c =
     let made = c.before.before in
     let if1 = made.before.before in
     let a = if1.before.before.before.args in
-    subst (λ (x : Bool). Converts (limitsOf x) (limitsOf (not x)) a.from.now a.to.now made.to-edition2.new.1.0 made.to-edition2.result) (sym if1.if1.false) made.to-edition2.ensures
+    subst (λ (x : Bool). Converts (limits_of x) (limits_of (not x)) a.from.now a.to.now made.to_edition2.new.1.0 made.to_edition2.result) (sym if1.if1.false) made.to_edition2.ensures
 
 pub convert-from-spec : {M : Type 1} → statement M
 convert-from-spec =

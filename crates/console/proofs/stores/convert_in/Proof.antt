@@ -3,16 +3,16 @@
 use Rattle.std.proofs.Common.{◌≡◌, ℕ, Bool, not, List, take, subst, rules}
 use Rattle.convert.specs.Convert.{Converts}
 use Rattle.convert.specs.declared.Converted.{Converted}
-use Rattle.console.specs.Bench.{limitsOf, storeOf}
+use Rattle.console.specs.Bench.{limits_of, store_of}
 use Rattle.console.proofs.BenchLaws.{front_length, held-refused, held-converted}
 use Rattle.console.proofs.stores.convert_in.Statement.{statement}
 use Rattle.console.proofs.stores.convert_in.Tie as tie
 
 -- of the store that is held, and of the answer that is told
-converts : (large : Bool) (from s to new : List ℕ) {r : Converted} (q : Converted) → from ≡ s → r ≡ q → Converts (limitsOf large) (limitsOf (not large)) from to new r
-    → Converts (limitsOf large) (limitsOf (not large)) s to new q
+converts : (large : Bool) (from s to new : List ℕ) {r : Converted} (q : Converted) → from ≡ s → r ≡ q → Converts (limits_of large) (limits_of (not large)) from to new r
+    → Converts (limits_of large) (limits_of (not large)) s to new q
 converts large from s to new {r = r} q e f c =
-    subst (λ (x : Converted). Converts (limitsOf large) (limitsOf (not large)) s to new x) f (subst (λ (x : List ℕ). Converts (limitsOf large) (limitsOf (not large)) x to new r) e c)
+    subst (λ (x : Converted). Converts (limits_of large) (limits_of (not large)) s to new x) f (subst (λ (x : List ℕ). Converts (limits_of large) (limits_of (not large)) x to new r) e c)
 
 size-requires : tie.Need-size-requires
 size-requires c κs = search rules
@@ -67,7 +67,7 @@ returns c =
     let a = start.args in
     let n = size.size.result in
     let h = size.size.ensures in
-    held-converted a.large n (storeOf a.large a.store.now) (take n a.made.now) made.convert-from.new.1.1.0 h (front_length (not a.large) n a.made.now h start.requires.1)
+    held-converted a.large n (store_of a.large a.store.now) (take n a.made.now) made.convert-from.new.1.1.0 h (front_length (not a.large) n a.made.now h start.requires.1)
     (converts a.large _ _ _ _ _ of.store_of.ensures told.enum_told.given.1 made.convert-from.ensures) made.convert-from.auto.1.1.0 a.store.now copy.copy.new.0 _ copy.copy.ensures
 
 same-length-3 : tie.Need-same-length-3
@@ -87,7 +87,7 @@ returns-2 c =
     let a = start.args in
     let n = size.size.result in
     let h = size.size.ensures in
-    held-refused a.large n (storeOf a.large a.store.now) (take n a.made.now) made.convert-from.new.1.1.0 h (front_length (not a.large) n a.made.now h start.requires.1)
+    held-refused a.large n (store_of a.large a.store.now) (take n a.made.now) made.convert-from.new.1.1.0 h (front_length (not a.large) n a.made.now h start.requires.1)
     told.0.0 (converts a.large _ _ _ _ _ of.store_of.ensures told.1 made.convert-from.ensures)
 
 pub convert-in-spec : {M : Type 1} → statement M

@@ -1,7 +1,7 @@
 -- `console::stores::take` meets its contract.
 -- Assumes nothing.
 use Rattle.std.proofs.Common.{sym, ◌∙◌, arith, rules}
-use Rattle.console.specs.Bench.{storeOf}
+use Rattle.console.specs.Bench.{store_of}
 use Rattle.console.proofs.BenchLaws.{edition-length, large-kept, large-taken, store_kept, store-taken}
 use Rattle.console.proofs.stores.take.Statement.{statement}
 use Rattle.console.proofs.stores.take.Tie as tie
@@ -61,7 +61,7 @@ returns c =
     let a = word.before.before.before.args in (
       large-taken a.text.now word.word.result.now decode.decode.new.1.0 decode.decode.result word.word.ensures decode.decode.ensures a.large
           told.enum_told.given.0.0 (sym of.edition-of.ensures ∙ told.enum_told.given.1),
-      store-taken a.text.now word.word.result.now decode.decode.new.1.0 decode.decode.result word.word.ensures decode.decode.ensures (storeOf a.large a.store.now) a.store.now copy.copy.new.0
+      store-taken a.text.now word.word.result.now decode.decode.new.1.0 decode.decode.result word.word.ensures decode.decode.ensures (store_of a.large a.store.now) a.store.now copy.copy.new.0
           told.enum_told.given.0.0 (sym of.edition-of.ensures ∙ told.enum_told.given.1) copy.copy.ensures,
     )
 
@@ -74,7 +74,7 @@ returns-2 c =
     let a = word.before.before.before.args in (
       large-kept a.text.now word.word.result.now decode.decode.new.1.0 decode.decode.result word.word.ensures decode.decode.ensures a.large
           (sym of.edition-of.ensures ∙ told.enum-told2.given.1),
-      store_kept a.text.now word.word.result.now decode.decode.new.1.0 decode.decode.result word.word.ensures decode.decode.ensures (storeOf a.large a.store.now) (sym of.edition-of.ensures ∙ told.enum-told2.given.1),
+      store_kept a.text.now word.word.result.now decode.decode.new.1.0 decode.decode.result word.word.ensures decode.decode.ensures (store_of a.large a.store.now) (sym of.edition-of.ensures ∙ told.enum-told2.given.1),
     )
 
 pub take_spec : {M : Type 1} → statement M

@@ -1,10 +1,10 @@
 -- `console::units::derive` meets its contract.
 -- Assumes nothing.
 use Rattle.std.proofs.Common.{ℕ, List, replicate, sym, ap, ◌∙◌, ap₂, rules}
-use Rattle.refusal.specs.House.{Answer, houseNumber, unlessRefused}
+use Rattle.refusal.specs.House.{Answer, house_number, unless_refused}
 use Rattle.refusal.proofs.Laws.{buffer-made, buffer-kept}
-use Rattle.authentication.specs.Keys.{derivedAs, derived, sessionKeys}
-use Rattle.console.specs.Units.{keyedBy}
+use Rattle.authentication.specs.Keys.{derived_as, derived, session_keys}
+use Rattle.console.specs.Units.{keyed_by}
 use Rattle.console.proofs.units.derive.Statement.{statement}
 use Rattle.console.proofs.units.derive.Tie as tie
 
@@ -47,11 +47,11 @@ returns c =
     let first = second.before in
     let a = first.before.before.before.args in
     let keys = made.session-keys in
-    let d = sym (ap derivedAs told.enum_told.given.1) ∙ keys.ensures.said in
-    let of : List ℕ → List ℕ → List ℕ = λ x y. unlessRefused (derived a.kmac.now) (sessionKeys a.kmac.now x y) a.keys.now in (
-      ap (λ (x : Answer). keyedBy x a.held) d,
+    let d = sym (ap derived_as told.enum_told.given.1) ∙ keys.ensures.said in
+    let of : List ℕ → List ℕ → List ℕ = λ x y. unless_refused (derived a.kmac.now) (session_keys a.kmac.now x y) a.keys.now in (
+      ap (λ (x : Answer). keyed_by x a.held) d,
       keep.keep.ensures
-          ∙ buffer-made (sessionKeys a.kmac.now first.store.result second.store2.result) (replicate 24 0) a.keys.now keys.result.key d keys.ensures.made
+          ∙ buffer-made (session_keys a.kmac.now first.store.result second.store2.result) (replicate 24 0) a.keys.now keys.result.key d keys.ensures.made
           ∙ ap₂ of first.store.ensures second.store2.ensures,
     )
 
@@ -62,8 +62,8 @@ returns-2 c =
     let second = made.before in
     let first = second.before in
     let a = first.before.before.before.args in
-    let d = sym (ap derivedAs h.1) ∙ made.session-keys.ensures.said in
-    (ap (λ (x : Answer). keyedBy x a.held) d, buffer-kept (houseNumber h.0.0) _ a.keys.now d)
+    let d = sym (ap derived_as h.1) ∙ made.session-keys.ensures.said in
+    (ap (λ (x : Answer). keyed_by x a.held) d, buffer-kept (house_number h.0.0) _ a.keys.now d)
 
 pub derive-spec : {M : Type 1} → statement M
 derive-spec =

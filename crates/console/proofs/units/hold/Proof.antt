@@ -2,8 +2,8 @@
 -- Assumes nothing.
 use Rattle.std.proofs.Common.{◌≡◌, ℕ, Bool, List, length, sym, ap, ◌∙◌, rules}
 use Rattle.authentication.specs.Keys.{derived}
-use Rattle.lines.specs.Digits.{pickList}
-use Rattle.console.specs.Units.{heldKmac, soundKmac, keyedBy, keysBy}
+use Rattle.lines.specs.Digits.{pick_list}
+use Rattle.console.specs.Units.{held_kmac, sound_kmac, keyed_by, keys_by}
 use Rattle.console.proofs.BenchLaws.{none-derived}
 use borrow.Author.Tests.{not-true, not-false}
 use Rattle.console.proofs.units.hold.Statement.{statement}
@@ -24,7 +24,7 @@ returns c =
     let test = if1.before in
     let a = test.before.before.before.args in
     let f = sym test.is-held.ensures ∙ not-true test.is-held.result if1.if1.true in
-    none-derived (soundKmac a.s.now a.place) a.ra a.rb a.held a.keys.now (ap (λ (x : Bool). length (pickList x (heldKmac a.s.now a.place))) f)
+    none-derived (sound_kmac a.s.now a.place) a.ra a.rb a.held a.keys.now (ap (λ (x : Bool). length (pick_list x (held_kmac a.s.now a.place))) f)
 
 kmac-at-requires : tie.Need-kmac-at-requires
 kmac-at-requires c κs = let test = c.before in sym test.is-held.ensures ∙ not-false test.is-held.result c.if1.false
@@ -43,8 +43,8 @@ returns-2 c =
     let test = if1.before in
     let a = test.before.before.before.args in
     let f = sym test.is-held.ensures ∙ not-false test.is-held.result if1.if1.false in
-    none-derived (soundKmac a.s.now a.place) a.ra a.rb a.held a.keys.now
-    (ap (λ (x : Bool). length (pickList x (heldKmac a.s.now a.place))) f ∙ sym (ap (λ (x : List ℕ). length x) kmac.kmac-at.ensures) ∙ if2.if2.true)
+    none-derived (sound_kmac a.s.now a.place) a.ra a.rb a.held a.keys.now
+    (ap (λ (x : Bool). length (pick_list x (held_kmac a.s.now a.place))) f ∙ sym (ap (λ (x : List ℕ). length x) kmac.kmac-at.ensures) ∙ if2.if2.true)
 
 derive-requires : tie.Need-derive-requires
 derive-requires c κs = search rules
@@ -61,10 +61,10 @@ returns-3 c =
     let test = if1.before in
     let a = test.before.before.before.args in
     let f = sym test.is-held.ensures ∙ not-false test.is-held.result if1.if1.false in
-    let k : kmac.kmac-at.result.now ≡ soundKmac a.s.now a.place =
-    kmac.kmac-at.ensures ∙ sym (ap (λ (x : Bool). pickList x (heldKmac a.s.now a.place)) f) in (
-      derive.derive.ensures.0 ∙ ap (λ (x : List ℕ). keyedBy (derived x) a.held) k,
-      derive.derive.ensures.1 ∙ ap (λ (x : List ℕ). keysBy x a.ra a.rb a.keys.now) k,
+    let k : kmac.kmac-at.result.now ≡ sound_kmac a.s.now a.place =
+    kmac.kmac-at.ensures ∙ sym (ap (λ (x : Bool). pick_list x (held_kmac a.s.now a.place)) f) in (
+      derive.derive.ensures.0 ∙ ap (λ (x : List ℕ). keyed_by (derived x) a.held) k,
+      derive.derive.ensures.1 ∙ ap (λ (x : List ℕ). keys_by x a.ra a.rb a.keys.now) k,
     )
 
 pub hold-spec : {M : Type 1} → statement M

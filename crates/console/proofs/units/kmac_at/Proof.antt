@@ -3,9 +3,9 @@
 use Rattle.std.proofs.Common.{◌≡◌, ℕ, ◌+◌, ◌-◌, ◌*◌, length, take, drop, sym, ap, ◌∙◌, arith, rules, le-leb}
 use borrow.Author.Tests.{lt-leb}
 use Rattle.octets.specs.Bytes.{part}
-use Rattle.store.specs.Layout.{editionOf}
-use Rattle.records.proofs.Theorems.{held_in}
-use Rattle.store.specs.Store.{keyCount}
+use Rattle.store.specs.Layout.{edition_of}
+use Rattle.records.proofs.Theorems.{held_in_lem}
+use Rattle.store.specs.Store.{key_count}
 use Rattle.store.proofs.SoundLaws.{sound-says}
 use Rattle.console.proofs.units.kmac_at.Statement.{statement}
 use Rattle.console.proofs.units.kmac_at.Tie as tie
@@ -21,7 +21,7 @@ returns c =
 number-at-requires : tie.Need-number-at-requires
 number-at-requires c κs =
     let start = c.before.before in
-    let p = held_in (editionOf (length start.args.s.now)) start.args.s.now start.requires in
+    let p = held_in_lem (edition_of (length start.args.s.now)) start.args.s.now start.requires in
     let w = sound-says p.0 start.args.s.now p.1 in
     omega arith
 
@@ -32,7 +32,7 @@ returns-2 : tie.Need-returns-2
 returns-2 c =
     let number = c.before.before in
     let start = number.before.before.before in
-    simp (le-leb 1 start.args.place (omega arith), lt-leb start.args.place (keyCount start.args.s.now) (omega arith))
+    simp (le-leb 1 start.args.place (omega arith), lt-leb start.args.place (key_count start.args.s.now) (omega arith))
 
 sub-start : tie.Need-overflow-sub-start
 sub-start c = search rules
@@ -59,7 +59,7 @@ part-result-end : tie.Need-slice-bounds-result-end
 part-result-end c =
     let number = c.before in
     let start = number.before.before.before in
-    let p = held_in (editionOf (length start.args.s.now)) start.args.s.now start.requires in
+    let p = held_in_lem (edition_of (length start.args.s.now)) start.args.s.now start.requires in
     let w = sound-says p.0 start.args.s.now p.1 in
     omega arith
 
@@ -70,7 +70,7 @@ returns-3 c =
     let start = number.before.before.before in
     let at : ℕ = 12 + 44 * (start.args.place - 1) + 8 in
     let e : at + 24 - at ≡ 24 = omega arith in
-    simp (le-leb 1 start.args.place (omega arith), le-leb start.args.place (keyCount start.args.s.now) (omega arith), e)
+    simp (le-leb 1 start.args.place (omega arith), le-leb start.args.place (key_count start.args.s.now) (omega arith), e)
 
 pub kmac-at-spec : {M : Type 1} → statement M
 kmac-at-spec =

@@ -4,7 +4,7 @@ use native.Mathlib.Omega.{arith}
 use mathlib.Core.Path.{ap₂, ◌∙◌}
 use Prim.Native.Nat.{ℕ}
 use Rattle.store.proofs.SearchLaws.{Room, room}
-use Rattle.depot.specs.Counts.{classOf}
+use Rattle.depot.specs.Counts.{class_of}
 use borrow.Author.Rules.{rules}
 use Rattle.depot.proofs.periods.class_at.Statement.{statement}
 use Rattle.depot.proofs.periods.class_at.Tie as tie
@@ -41,7 +41,7 @@ returns c =
     let two = c.before in
     let one = two.before in
     let a = one.before.before.args in
-    c.class_of.ensures ∙ ap₂ (λ (x y : ℕ). classOf x y a.t) one.get32-at.ensures two.get32-at2.ensures
+    c.class_of.ensures ∙ ap₂ (λ (x y : ℕ). class_of x y a.t) one.get32-at.ensures two.get32-at2.ensures
 
 pub class-at-spec : {M : Type 1} → statement M
 class-at-spec =

@@ -1,17 +1,17 @@
--- `depot::periods::classes_of` meets its contract. The loop's invariant: what is inAll are the classes of the records from i on.
+-- `depot::periods::classes_of` meets its contract. The loop's invariant: what is in_all are the classes of the records from i on.
 -- Assumes nothing.
 use native.Mathlib.Omega.{arith}
 use mathlib.Core.Path.{◌≡◌}
 use Prim.Native.Nat.{◌-◌, ◌≤◌, ◌<◌}
-use Rattle.store.specs.Store.{keyCount, entriesFrom}
+use Rattle.store.specs.Store.{key_count, entries_from}
 use Rattle.store.proofs.SoundLaws.{sound-says}
-use Rattle.depot.specs.Counts.{classesOf}
-use Rattle.depot.proofs.CountLaws.{classes-start, classes-turn, classes-few, classes-all}
+use Rattle.depot.specs.Counts.{classes_of}
+use Rattle.depot.proofs.CountLaws.{classes-start, classes_turn, classes-few, classes-all}
 use Rattle.depot.proofs.periods.classes_of.Statement.{statement}
 use Rattle.depot.proofs.periods.classes_of.Tie as tie
 
 abbrev invariant-loop : tie.invariant-loop
-invariant-loop s lim t n c₀ i₀ c i = (i ≤ n) × (n ≡ keyCount s) × (n < 65536) × (c ≡ classesOf t (entriesFrom lim s i (n - i)))
+invariant-loop s lim t n c₀ i₀ c i = (i ≤ n) × (n ≡ key_count s) × (n < 65536) × (c ≡ classes_of t (entries_from lim s i (n - i)))
 
 abbrev decreases-loop : tie.decreases-loop
 decreases-loop s lim t n c₀ i₀ c i = i
@@ -55,7 +55,7 @@ loop-again c =
       omega arith,
       loop.loop.invariant.1,
       loop.loop.invariant.2,
-      classes-turn a.lim a.s.now a.t number_at.number_at.result loop.loop.i loop.loop.c c.one_more.result class-at.class-at.result (omega arith) loop.loop.invariant.0 loop.loop.invariant.3 class-at.class-at.ensures c.one_more.ensures,
+      classes_turn a.lim a.s.now a.t number_at.number_at.result loop.loop.i loop.loop.c c.one_more_lem.result class-at.class-at.result (omega arith) loop.loop.invariant.0 loop.loop.invariant.3 class-at.class-at.ensures c.one_more_lem.ensures,
     )
 
 returns : tie.Need-returns invariant-loop decreases-loop

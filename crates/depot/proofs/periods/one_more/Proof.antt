@@ -1,10 +1,10 @@
--- `depot::periods::one_more` meets its contract.
+-- `depot::periods::one_more_lem` meets its contract.
 -- Assumes nothing.
 use mathlib.Core.Path.{sym, ap}
-use Rattle.depot.specs.Counts.{oneMore}
+use Rattle.depot.specs.Counts.{one_more}
 use borrow.Author.Rules.{rules}
-use Rattle.depot.proofs.periods.one_more.Statement.{statement}
-use Rattle.depot.proofs.periods.one_more.Tie as tie
+use Rattle.depot.proofs.periods.one_more_lem.Statement.{statement}
+use Rattle.depot.proofs.periods.one_more_lem.Tie as tie
 
 enum_told : tie.Need-enum-told
 enum_told c = search rules
@@ -31,16 +31,16 @@ add-t7 : tie.Need-overflow-add-t7
 add-t7 c = search rules
 
 returns : tie.Need-returns
-returns c = let a = c.before.before.before.args in ap (λ (k : _). oneMore k a.c) (sym c.before.enum_told.given.1)
+returns c = let a = c.before.before.before.args in ap (λ (k : _). one_more k a.c) (sym c.before.enum_told.given.1)
 
 returns-2 : tie.Need-returns-2
-returns-2 c = let a = c.before.before.before.args in ap (λ (k : _). oneMore k a.c) (sym c.before.enum-told2.given.1)
+returns-2 c = let a = c.before.before.before.args in ap (λ (k : _). one_more k a.c) (sym c.before.enum-told2.given.1)
 
 returns-3 : tie.Need-returns-3
-returns-3 c = let a = c.before.before.before.args in ap (λ (k : _). oneMore k a.c) (sym c.before.enum-told3.given.1)
+returns-3 c = let a = c.before.before.before.args in ap (λ (k : _). one_more k a.c) (sym c.before.enum-told3.given.1)
 
 returns-4 : tie.Need-returns-4
-returns-4 c = let a = c.before.before.before.args in ap (λ (k : _). oneMore k a.c) (sym c.before.enum-told4.given.1)
+returns-4 c = let a = c.before.before.before.args in ap (λ (k : _). one_more k a.c) (sym c.before.enum-told4.given.1)
 
 pub one-more-spec : {M : Type 1} → statement M
 one-more-spec =

@@ -1,6 +1,6 @@
 -- `depot::sums::have_room` meets its contract.
 -- Assumes nothing.
-use Rattle.store.specs.Store.{allHold}
+use Rattle.store.specs.Store.{all_hold}
 use borrow.Author.Rules.{rules}
 use Rattle.depot.proofs.sums.have_room.Statement.{statement}
 use Rattle.depot.proofs.sums.have_room.Tie as tie
@@ -24,7 +24,7 @@ has-room-requires-6 : tie.Need-has-room-requires-6
 has-room-requires-6 c κs = search rules
 
 returns : tie.Need-returns
-unfolding allHold
+unfolding all_hold
 returns c =
     let r5 = c.before in
     let r4 = r5.before in

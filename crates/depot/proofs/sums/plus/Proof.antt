@@ -2,13 +2,13 @@
 -- Assumes nothing.
 use native.Mathlib.Omega.{arith}
 use Rattle.depot.specs.Claims.{Within}
-use Rattle.depot.proofs.CountLaws.{rooms-say}
+use Rattle.depot.proofs.CountLaws.{rooms_say}
 use borrow.Author.Rules.{rules}
 use Rattle.depot.proofs.sums.plus.Statement.{statement}
 use Rattle.depot.proofs.sums.plus.Tie as tie
 
 within : (start : tie.Start) → Within start.args.a start.args.b
-within start = rooms-say start.args.a start.args.b start.requires
+within start = rooms_say start.args.a start.args.b start.requires
 
 add-t3 : tie.Need-overflow-add-t3
 add-t3 c = let start = c.before.before in omega (arith, (within start).held)

@@ -1,7 +1,7 @@
 -- `des::iteration::crypt` meets its contract.
 -- Assumes nothing.
 use mathlib.Core.Path.{ap, ◌∙◌}
-use Rattle.des.specs.Tables.{ipInverse}
+use Rattle.des.specs.Tables.{ip_inverse}
 use Rattle.des.specs.Des.{permute, swap, rounds, cipher}
 use Rattle.des.specs.Words.{keys_of}
 use borrow.Author.Rules.{rules}
@@ -25,7 +25,7 @@ unfolding cipher
 returns c =
     let a = c.before.before.before.before.args in
     c.inverse-initial.ensures.same
-    ∙ ap (permute ipInverse)
+    ∙ ap (permute ip_inverse)
     (c.before.exchange.ensures ∙ ap (swap 32) (c.before.before.iterate.ensures ∙ ap (rounds (keys_of a.keys a.back) 16) c.before.before.before.initial.ensures.same))
 
 pub crypt-spec : {M : Type 1} → statement M

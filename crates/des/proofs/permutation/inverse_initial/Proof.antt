@@ -3,7 +3,7 @@
 use mathlib.Core.Path.{refl}
 use lib.Dec.{lit≤}
 use borrow.Author.Rules.{rules}
-use Rattle.des.specs.Tables.{ipInverse}
+use Rattle.des.specs.Tables.{ip_inverse}
 use Rattle.des.proofs.permutation.inverse_initial.Statement.{statement}
 use Rattle.des.proofs.permutation.inverse_initial.Tie as tie
 
@@ -14,7 +14,7 @@ permute-requires : tie.Need-permute-requires
 permute-requires c κs = record { names = record { wide = lit≤ tt; entries = refl }; eight = refl; some = lit≤ tt; most = lit≤ tt }
 
 returns : tie.Need-returns
-unfolding ipInverse
+unfolding ip_inverse
 returns c = c.permute.ensures
 
 pub inverse-initial-spec : {M : Type 1} → statement M

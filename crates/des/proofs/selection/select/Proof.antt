@@ -8,7 +8,7 @@ use lib.ListN.{length}
 use Rattle.des.specs.Bits.{bits}
 use Rattle.des.specs.Des as des
 use Rattle.des.specs.Words.{Holds}
-use Rattle.des.proofs.TableLaws.{row_number, column-number, selected, length-boxes}
+use Rattle.des.proofs.TableLaws.{row_number, column-number, selected, length_boxes}
 use Rattle.des.proofs.selection.select.Statement.{statement}
 use Rattle.des.proofs.selection.select.Tie as tie
 
@@ -27,7 +27,7 @@ add-at-2 c = let start = c.before in omega (arith, row_number start.args.group s
 shared-slice-read-wide64 : tie.Need-shared-slice-read-wide64
 shared-slice-read-wide64 c =
     let start = c.before.before in
-    let long : length start.args.boxes.now ≡ 512 = ap length start.requires.1.1 ∙ length-boxes in
+    let long : length start.args.boxes.now ≡ 512 = ap length start.requires.1.1 ∙ length_boxes in
     omega (arith, row_number start.args.group start.requires.1.0, column-number start.args.group)
 
 wide64-requires : tie.Need-wide64-requires

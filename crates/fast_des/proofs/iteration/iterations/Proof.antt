@@ -5,7 +5,7 @@ use Prim.Native.Nat.{ℕ, ◌-◌, ◌≤◌, ◌<◌}
 use native.Mathlib.Omega.{arith}
 use Rattle.fast_des.specs.Inside.{Iterates}
 use Rattle.des.proofs.KeyLaws.{turned-below}
-use Rattle.fast_des.proofs.InsideLaws.{iterate-none, iterate-more}
+use Rattle.fast_des.proofs.InsideLaws.{iterate_none, iterate_more}
 use Rattle.fast_des.proofs.iteration.iterations.Statement.{statement}
 use Rattle.fast_des.proofs.iteration.iterations.Tie as tie
 
@@ -18,7 +18,7 @@ decreases-loop back table keys s₀ n₀ s n = 16 - n
 loop-holds : tie.Need-loop-init invariant-loop decreases-loop
 loop-holds c =
     let a = c.before.args in
-    (omega arith, iterate-none a.h a.t2 a.back)
+    (omega arith, iterate_none a.h a.t2 a.back)
 
 turn-requires : tie.Need-turn-requires invariant-loop decreases-loop
 turn-requires c κs = c.loop-test.true
@@ -47,7 +47,7 @@ loop-again c =
     let a = l.before.before.args in
     let t = c.before.turn in (
       omega arith,
-      iterate-more a.h l.loop.s c.round.result a.t2 a.back l.loop.n t.result t.ensures l.loop.invariant.1 c.round.ensures,
+      iterate_more a.h l.loop.s c.round.result a.t2 a.back l.loop.n t.result t.ensures l.loop.invariant.1 c.round.ensures,
     )
 
 returns : tie.Need-returns invariant-loop decreases-loop

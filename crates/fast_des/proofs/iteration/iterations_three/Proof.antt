@@ -5,7 +5,7 @@ use Prim.Native.Nat.{ℕ, ◌-◌, ◌≤◌, ◌<◌}
 use native.Mathlib.Omega.{arith}
 use Rattle.fast_des.specs.Inside.{Iterates}
 use Rattle.des.proofs.KeyLaws.{turned-below}
-use Rattle.fast_des.proofs.InsideLaws.{iterate-none, iterate-more}
+use Rattle.fast_des.proofs.InsideLaws.{iterate_none, iterate_more}
 use borrow.Author.Rules.{rules}
 use Rattle.fast_des.proofs.iteration.iterations_three.Statement.{statement}
 use Rattle.fast_des.proofs.iteration.iterations_three.Tie as tie
@@ -19,7 +19,7 @@ decreases-loop back table keys others one₀ two₀ three₀ n₀ one two three 
 loop-holds : tie.Need-loop-init invariant-loop decreases-loop
 loop-holds c =
     let a = c.before.before.before.before.args in
-    (omega arith, (iterate-none a.s.one a.t2 a.back, (iterate-none a.s.two a.t2 a.back, iterate-none a.s.three a.t3 a.back)))
+    (omega arith, (iterate_none a.s.one a.t2 a.back, (iterate_none a.s.two a.t2 a.back, iterate_none a.s.three a.t3 a.back)))
 
 turn-requires : tie.Need-turn-requires invariant-loop decreases-loop
 turn-requires c κs = c.loop-test.true
@@ -73,10 +73,10 @@ loop-again c =
     let t = turn_at.turn in (
       omega arith,
       (
-        iterate-more a.s.one l.one one_at.round.result a.t2 a.back l.n t.result t.ensures l.invariant.1.0 one_at.round.ensures,
+        iterate_more a.s.one l.one one_at.round.result a.t2 a.back l.n t.result t.ensures l.invariant.1.0 one_at.round.ensures,
         (
-          iterate-more a.s.two l.two two_at.round2.result a.t2 a.back l.n t.result t.ensures l.invariant.1.1.0 two_at.round2.ensures,
-          iterate-more a.s.three l.three c.round3.result a.t3 a.back l.n t.result t.ensures l.invariant.1.1.1 c.round3.ensures,
+          iterate_more a.s.two l.two two_at.round2.result a.t2 a.back l.n t.result t.ensures l.invariant.1.1.0 two_at.round2.ensures,
+          iterate_more a.s.three l.three c.round3.result a.t3 a.back l.n t.result t.ensures l.invariant.1.1.1 c.round3.ensures,
         ),
       ),
     )

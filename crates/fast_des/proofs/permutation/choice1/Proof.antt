@@ -8,11 +8,11 @@ use lib.Bits.{bit_and, bit_xor}
 use borrow.Author.Rules.{rules}
 use Rattle.octets.specs.Bytes.{same, all_below}
 use Rattle.des.specs.Bits.{bits}
-use Rattle.des.specs.Tables.{ip, ipInverse, pc1}
+use Rattle.des.specs.Tables.{ip, ip_inverse, pc1}
 use Rattle.des.specs.Des.{permute}
 use Rattle.des.proofs.WordLaws.{recast}
 use Rattle.des.proofs.CipherLaws.{compose}
-use Rattle.fast_des.proofs.LinearLaws.{Linear, same-linear, xor-linear, and-linear, shl-linear, shr-linear, permutesPowers, by-powers}
+use Rattle.fast_des.proofs.LinearLaws.{Linear, same-linear, xor_linear, and_linear, shl_linear, shr_linear, permutes_powers, by_powers}
 use Rattle.fast_des.proofs.permutation.choice1.Statement.{statement}
 use Rattle.fast_des.proofs.permutation.choice1.Tie as tie
 
@@ -32,20 +32,20 @@ network y = bit_xor (left y) (right y)
 
 linear : Linear network
 linear =
-    let part : (m : ℕ) → Linear (λ (y : ℕ). bit_and y m) = λ m. and-linear m same-linear in
-    xor-linear (xor-linear (xor-linear (xor-linear (shl-linear 24 (part _)) (shr-linear 16 (part _))) (shl-linear 16 (part _))) (shr-linear 24 (part _)))
-    (xor-linear (xor-linear (xor-linear (shl-linear 20 (part _)) (shr-linear 28 (part _))) (shr-linear 4 (part _))) (shr-linear 48 (part _)))
+    let part : (m : ℕ) → Linear (λ (y : ℕ). bit_and y m) = λ m. and_linear m same-linear in
+    xor_linear (xor_linear (xor_linear (xor_linear (shl_linear 24 (part _)) (shr_linear 16 (part _))) (shl_linear 16 (part _))) (shr_linear 24 (part _)))
+    (xor_linear (xor_linear (xor_linear (shl_linear 20 (part _)) (shr_linear 28 (part _))) (shr_linear 4 (part _))) (shr_linear 48 (part _)))
 
 -- where IP puts the bits that permuted choice 1 names
 abbrev moved : List ℕ
-moved = permute pc1 ipInverse
+moved = permute pc1 ip_inverse
 
-test : permutesPowers 56 64 moved network ≡ true
-unfolding permutesPowers all_below same bits permute pc1 ipInverse
+test : permutes_powers 56 64 moved network ≡ true
+unfolding permutes_powers all_below same bits permute pc1 ip_inverse
 test = refl
 
 moved-ip : (x : List ℕ) → permute moved (permute ip x) ≡ permute pc1 x
-unfolding permute pc1 ip ipInverse
+unfolding permute pc1 ip ip_inverse
 moved-ip x = compose moved ip x refl
 
 initial-requires : tie.Need-initial-requires
@@ -54,7 +54,7 @@ initial-requires c κs = search rules
 returns : tie.Need-returns
 returns c =
     let y = c.initial.ensures in
-    recast (by-powers 56 64 moved linear test c.initial.result y.fits refl) (ap (permute moved) y.same ∙ moved-ip (bits 64 c.before.args.x))
+    recast (by_powers 56 64 moved linear test c.initial.result y.fits refl) (ap (permute moved) y.same ∙ moved-ip (bits 64 c.before.args.x))
 
 pub choice1-spec : {M : Type 1} → statement M
 choice1-spec = tie.close (tie.spec initial-requires returns)

@@ -6,8 +6,8 @@ use native.Mathlib.Omega.{arith}
 use lib.Bits.{bit_and, mask_lt}
 use Rattle.des.specs.Bits.{bits}
 use Rattle.des.specs.Tables.{pc2}
-use Rattle.des.specs.Des.{permute, swap, shiftBoth}
-use Rattle.fast_des.specs.Joined.{zeros, pc2Groups}
+use Rattle.des.specs.Des.{permute, swap, shift_both}
+use Rattle.fast_des.specs.Joined.{zeros, pc2_groups}
 use Rattle.fast_des.proofs.ChoiceLaws.{Chosen, chosen-start, chosen-step, chosen-end}
 use Rattle.fast_des.proofs.permutation.choices.Statement.{statement}
 use Rattle.fast_des.proofs.permutation.choices.Tie as tie
@@ -26,14 +26,14 @@ nibble x n = mask_lt (x / 2 ^ n) 4
 asked : (c : tie.In-loop invariant-loop decreases-loop) (k : ℕ) → k < 4
     → let x = c.before.before.before.args.x in
     let i = c.before.loop.i in
-    ((i < 7) × (k < 4)) × (((bit_and (x / 2 ^ (52 - 4 * i)) 15 < 16) × (bit_and (x / 2 ^ (24 - 4 * i)) 15 < 16)) × (c.before.before.before.args.groups.now ≡ pc2Groups))
+    ((i < 7) × (k < 4)) × (((bit_and (x / 2 ^ (52 - 4 * i)) 15 < 16) × (bit_and (x / 2 ^ (24 - 4 * i)) 15 < 16)) × (c.before.before.before.args.groups.now ≡ pc2_groups))
 asked c k h =
     let x = c.before.before.before.args.x in
     let i = c.before.loop.i in
     ((c.loop-test.true, h), ((nibble x (52 - 4 * i), nibble x (24 - 4 * i)), c.before.before.before.requires))
 
 loop-holds : tie.Need-loop-init invariant-loop decreases-loop
-unfolding bits permute pc2 swap shiftBoth zeros
+unfolding bits permute pc2 swap shift_both zeros
 loop-holds c =
     let x = c.before.args.x in
     (omega arith, ((chosen-start 0 x refl, chosen-start 4 x refl), (chosen-start 8 x refl, chosen-start 12 x refl)))

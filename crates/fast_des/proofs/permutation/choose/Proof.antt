@@ -8,10 +8,10 @@ use lib.Bits.{bit_xor}
 use lib.ListN.{length, get_or}
 use borrow.Author.Rules.{rules}
 use Rattle.des.specs.Tables.{pc2}
-use Rattle.des.specs.Des.{permute, shiftBoth}
+use Rattle.des.specs.Des.{permute, shift_both}
 use Rattle.des.specs.Words.{Holds}
-use Rattle.fast_des.proofs.JoinedLaws.{length-pc2Groups}
-use Rattle.fast_des.proofs.ChoiceLaws.{after, twoGroups, two-chosen}
+use Rattle.fast_des.proofs.JoinedLaws.{length-pc2_groups}
+use Rattle.fast_des.proofs.ChoiceLaws.{after, two_groups, two-chosen}
 use Rattle.fast_des.proofs.permutation.choose.Statement.{statement}
 use Rattle.fast_des.proofs.permutation.choose.Tie as tie
 
@@ -40,13 +40,13 @@ mul-result : tie.Need-overflow-mul-result
 mul-result c = search rules
 
 shared-slice-read-result : tie.Need-shared-slice-read-result
-shared-slice-read-result c = omega (arith, ap length c.before.requires.1.1 ∙ length-pc2Groups)
+shared-slice-read-result c = omega (arith, ap length c.before.requires.1.1 ∙ length-pc2_groups)
 
 mul-result-2 : tie.Need-overflow-mul-result-2
 mul-result-2 c = search rules
 
 shared-slice-read-result-2 : tie.Need-shared-slice-read-result-2
-shared-slice-read-result-2 c = omega (arith, ap length c.before.before.requires.1.1 ∙ length-pc2Groups)
+shared-slice-read-result-2 c = omega (arith, ap length c.before.before.requires.1.1 ∙ length-pc2_groups)
 
 returns : tie.Need-returns
 returns c =
@@ -55,7 +55,7 @@ returns c =
     let p = start.requires in
     let left = 16 * after a.i a.k + a.c in
     let right = 16 * (7 + after a.i a.k) + a.d in
-    subst⁻¹ (λ (g : List ℕ). Holds 48 (bit_xor (get_or g left 0) (get_or g right 0)) (permute pc2 (shiftBoth (4 * a.k) (twoGroups a.i a.c a.d)))) p.1.1
+    subst⁻¹ (λ (g : List ℕ). Holds 48 (bit_xor (get_or g left 0) (get_or g right 0)) (permute pc2 (shift_both (4 * a.k) (two_groups a.i a.c a.d)))) p.1.1
     (two-chosen a.i a.k a.c a.d p.0.0 p.0.1 p.1.0.0 p.1.0.1)
 
 pub choose_spec : {M : Type 1} → statement M

@@ -2,7 +2,7 @@
 -- Assumes nothing.
 use mathlib.Core.Path.{refl}
 use borrow.Author.Rules.{rules}
-use Rattle.fast_des.specs.Networks.{exchangeBits}
+use Rattle.fast_des.specs.Networks.{exchange_bits}
 use Rattle.fast_des.proofs.permutation.exchange_bits.Statement.{statement}
 use Rattle.fast_des.proofs.permutation.exchange_bits.Tie as tie
 
@@ -13,7 +13,7 @@ shl-result : tie.Need-overflow-shl-result
 shl-result c = search rules
 
 returns : tie.Need-returns
-unfolding exchangeBits
+unfolding exchange_bits
 returns c = refl
 
 pub exchange-bits-spec : {M : Type 1} → statement M

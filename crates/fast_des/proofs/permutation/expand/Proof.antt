@@ -10,8 +10,8 @@ use Rattle.octets.specs.Bytes.{same, all_below}
 use Rattle.des.specs.Bits.{bits}
 use Rattle.des.specs.Tables.{e}
 use Rattle.des.specs.Des.{permute}
-use Rattle.fast_des.specs.Networks.{spreadParts}
-use Rattle.fast_des.proofs.LinearLaws.{Linear, same-linear, xor-linear, and-linear, shl-linear, shr-linear, spread-linear, permutesPowers, by-powers}
+use Rattle.fast_des.specs.Networks.{spread_parts}
+use Rattle.fast_des.proofs.LinearLaws.{Linear, same-linear, xor_linear, and_linear, shl_linear, shr_linear, spread_linear, permutes_powers, by_powers}
 use Rattle.fast_des.proofs.permutation.expand.Statement.{statement}
 use Rattle.fast_des.proofs.permutation.expand.Tie as tie
 
@@ -20,15 +20,15 @@ abbrev ends : ℕ → ℕ
 ends r = bit_xor (bit_xor (r * 2 ^ 1 % 2 ^ 64) (r / 2 ^ 31)) (bit_and r 1 * 2 ^ 33 % 2 ^ 64)
 
 abbrev network : ℕ → ℕ
-network x = spreadParts 0x3f03f03f03f0 2 0x3f03f03f03f (spreadParts 0x3ff0003ff00 4 0x3ff0003ff (spreadParts 0x3ffff0000 8 0x3ffff (ends (bit_and x 0xffffffff))))
+network x = spread_parts 0x3f03f03f03f0 2 0x3f03f03f03f (spread_parts 0x3ff0003ff00 4 0x3ff0003ff (spread_parts 0x3ffff0000 8 0x3ffff (ends (bit_and x 0xffffffff))))
 
 linear : Linear network
 linear =
-    let half : Linear (λ (x : ℕ). bit_and x 0xffffffff) = and-linear _ same-linear in
-    spread-linear _ _ _ (spread-linear _ _ _ (spread-linear _ _ _ (xor-linear (xor-linear (shl-linear 1 half) (shr-linear 31 half)) (shl-linear 33 (and-linear 1 half)))))
+    let half : Linear (λ (x : ℕ). bit_and x 0xffffffff) = and_linear _ same-linear in
+    spread_linear _ _ _ (spread_linear _ _ _ (spread_linear _ _ _ (xor_linear (xor_linear (shl_linear 1 half) (shr_linear 31 half)) (shl_linear 33 (and_linear 1 half)))))
 
-test : permutesPowers 48 32 e network ≡ true
-unfolding permutesPowers all_below same bits permute e spreadParts
+test : permutes_powers 48 32 e network ≡ true
+unfolding permutes_powers all_below same bits permute e spread_parts
 test = refl
 
 spread-requires : tie.Need-spread-requires
@@ -44,8 +44,8 @@ returns : tie.Need-returns
 returns c =
     let second = c.before in
     let first = second.before in
-    by-powers 48 32 e linear test first.before.args.x (omega arith)
-    (c.spread3.ensures ∙ ap (spreadParts 0x3f03f03f03f0 2 0x3f03f03f03f) (second.spread2.ensures ∙ ap (spreadParts 0x3ff0003ff00 4 0x3ff0003ff) first.spread.ensures))
+    by_powers 48 32 e linear test first.before.args.x (omega arith)
+    (c.spread3.ensures ∙ ap (spread_parts 0x3f03f03f03f0 2 0x3f03f03f03f) (second.spread2.ensures ∙ ap (spread_parts 0x3ff0003ff00 4 0x3ff0003ff) first.spread.ensures))
 
 pub expand-spec : {M : Type 1} → statement M
 expand-spec = tie.close (tie.spec spread-requires spread-requires-2 spread-requires-3 returns)

@@ -2,7 +2,7 @@
 -- Assumes nothing.
 use mathlib.Core.Path.{refl}
 use borrow.Author.Rules.{rules}
-use Rattle.fast_des.specs.Networks.{gatherParts}
+use Rattle.fast_des.specs.Networks.{gather_parts}
 use Rattle.fast_des.proofs.permutation.gather.Statement.{statement}
 use Rattle.fast_des.proofs.permutation.gather.Tie as tie
 
@@ -10,7 +10,7 @@ shr-result : tie.Need-overflow-shr-result
 shr-result c = search rules
 
 returns : tie.Need-returns
-unfolding gatherParts
+unfolding gather_parts
 returns c = refl
 
 pub gather-spec : {M : Type 1} → statement M

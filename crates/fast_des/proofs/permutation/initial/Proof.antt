@@ -9,19 +9,19 @@ use Rattle.octets.specs.Bytes.{same, all_below}
 use Rattle.des.specs.Bits.{bits}
 use Rattle.des.specs.Tables.{ip}
 use Rattle.des.specs.Des.{permute}
-use Rattle.fast_des.specs.Networks.{exchangeBits}
-use Rattle.fast_des.proofs.LinearLaws.{Linear, same-linear, exchange-linear, permutesPowers, by-powers}
+use Rattle.fast_des.specs.Networks.{exchange_bits}
+use Rattle.fast_des.proofs.LinearLaws.{Linear, same-linear, exchange_linear, permutes_powers, by_powers}
 use Rattle.fast_des.proofs.permutation.initial.Statement.{statement}
 use Rattle.fast_des.proofs.permutation.initial.Tie as tie
 
 abbrev network : ℕ → ℕ
-network x = exchangeBits 33 0x55555555 (exchangeBits 24 0xff00ff00 (exchangeBits 30 0xcccccccc (exchangeBits 48 0xffff (exchangeBits 36 0x0f0f0f0f x))))
+network x = exchange_bits 33 0x55555555 (exchange_bits 24 0xff00ff00 (exchange_bits 30 0xcccccccc (exchange_bits 48 0xffff (exchange_bits 36 0x0f0f0f0f x))))
 
 linear : Linear network
-linear = exchange-linear _ _ (exchange-linear _ _ (exchange-linear _ _ (exchange-linear _ _ (exchange-linear _ _ same-linear))))
+linear = exchange_linear _ _ (exchange_linear _ _ (exchange_linear _ _ (exchange_linear _ _ (exchange_linear _ _ same-linear))))
 
-test : permutesPowers 64 64 ip network ≡ true
-unfolding permutesPowers all_below same bits permute ip exchangeBits
+test : permutes_powers 64 64 ip network ≡ true
+unfolding permutes_powers all_below same bits permute ip exchange_bits
 test = refl
 
 exchange-bits-requires : tie.Need-exchange-bits-requires
@@ -42,7 +42,7 @@ exchange-bits-requires-5 c κs = search rules
 returns : tie.Need-returns
 returns c =
     let start = c.before.before.before.before.before in
-    by-powers 64 64 ip linear test start.args.x (omega arith) (cc)
+    by_powers 64 64 ip linear test start.args.x (omega arith) (cc)
 
 pub initial-spec : {M : Type 1} → statement M
 initial-spec = tie.close (tie.spec exchange-bits-requires exchange-bits-requires-2 exchange-bits-requires-3 exchange-bits-requires-4 exchange-bits-requires-5 returns)

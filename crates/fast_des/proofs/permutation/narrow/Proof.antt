@@ -9,19 +9,19 @@ use borrow.Author.Rules.{rules}
 use Rattle.octets.specs.Bytes.{same, all_below}
 use Rattle.des.specs.Bits.{bits}
 use Rattle.des.specs.Des.{permute}
-use Rattle.fast_des.specs.Networks.{gatherParts, middle}
-use Rattle.fast_des.proofs.LinearLaws.{Linear, same-linear, and-linear, shr-linear, gather-linear, permutesPowers, by-powers}
+use Rattle.fast_des.specs.Networks.{gather_parts, middle}
+use Rattle.fast_des.proofs.LinearLaws.{Linear, same-linear, and_linear, shr_linear, gather_linear, permutes_powers, by_powers}
 use Rattle.fast_des.proofs.permutation.narrow.Statement.{statement}
 use Rattle.fast_des.proofs.permutation.narrow.Tie as tie
 
 abbrev network : ℕ → ℕ
-network x = gatherParts 0xffff000000 8 0xffff (gatherParts 0xff0000ff000 4 0xff0000ff (gatherParts 0x3c03c03c03c0 2 0xf00f00f00f (bit_and (x / 2 ^ 1) 0x3cf3cf3cf3cf)))
+network x = gather_parts 0xffff000000 8 0xffff (gather_parts 0xff0000ff000 4 0xff0000ff (gather_parts 0x3c03c03c03c0 2 0xf00f00f00f (bit_and (x / 2 ^ 1) 0x3cf3cf3cf3cf)))
 
 linear : Linear network
-linear = gather-linear _ _ _ (gather-linear _ _ _ (gather-linear _ _ _ (and-linear _ (shr-linear 1 same-linear))))
+linear = gather_linear _ _ _ (gather_linear _ _ _ (gather_linear _ _ _ (and_linear _ (shr_linear 1 same-linear))))
 
-test : permutesPowers 32 48 middle network ≡ true
-unfolding permutesPowers all_below same bits permute middle gatherParts
+test : permutes_powers 32 48 middle network ≡ true
+unfolding permutes_powers all_below same bits permute middle gather_parts
 test = refl
 
 gather-requires : tie.Need-gather-requires
@@ -36,7 +36,7 @@ gather-requires-3 c κs = search rules
 returns : tie.Need-returns
 returns c =
     let start = c.before.before.before in
-    by-powers 32 48 middle linear test start.args.x (omega arith) (cc)
+    by_powers 32 48 middle linear test start.args.x (omega arith) (cc)
 
 pub narrow-spec : {M : Type 1} → statement M
 narrow-spec = tie.close (tie.spec gather-requires gather-requires-2 gather-requires-3 returns)

@@ -2,7 +2,7 @@
 -- Assumes nothing.
 use mathlib.Core.Path.{refl}
 use borrow.Author.Rules.{rules}
-use Rattle.fast_des.specs.Networks.{spreadParts}
+use Rattle.fast_des.specs.Networks.{spread_parts}
 use Rattle.fast_des.proofs.permutation.spread.Statement.{statement}
 use Rattle.fast_des.proofs.permutation.spread.Tie as tie
 
@@ -10,7 +10,7 @@ shl-result : tie.Need-overflow-shl-result
 shl-result c = search rules
 
 returns : tie.Need-returns
-unfolding spreadParts
+unfolding spread_parts
 returns c = refl
 
 pub spread-spec : {M : Type 1} → statement M

@@ -6,15 +6,15 @@ use native.Mathlib.Omega.{arith}
 use borrow.Author.Rules.{rules}
 use Rattle.octets.specs.Bytes.{same, all_below}
 use Rattle.des.specs.Bits.{bits}
-use Rattle.des.specs.Des.{permute, swap, shiftBoth}
+use Rattle.des.specs.Des.{permute, swap, shift_both}
 use Rattle.des.specs.Words.{up_from}
-use Rattle.fast_des.specs.Networks.{shiftParts}
-use Rattle.fast_des.proofs.LinearLaws.{permutesPowers, shift_word}
+use Rattle.fast_des.specs.Networks.{shift_parts}
+use Rattle.fast_des.proofs.LinearLaws.{permutes_powers, shift_word}
 use Rattle.fast_des.proofs.shift.shift_15.Statement.{statement}
 use Rattle.fast_des.proofs.shift.shift_15.Tie as tie
 
-test : permutesPowers 56 56 (shiftBoth 15 (up_from 1 56)) (shiftParts 15 0xfff8000fff8000 0x7fff0007fff) ≡ true
-unfolding permutesPowers all_below same bits permute swap shiftBoth shiftParts
+test : permutes_powers 56 56 (shift_both 15 (up_from 1 56)) (shift_parts 15 0xfff8000fff8000 0x7fff0007fff) ≡ true
+unfolding permutes_powers all_below same bits permute swap shift_both shift_parts
 test = refl
 
 shift-parts-requires : tie.Need-shift-parts-requires

@@ -6,15 +6,15 @@ use native.Mathlib.Omega.{arith}
 use borrow.Author.Rules.{rules}
 use Rattle.octets.specs.Bytes.{same, all_below}
 use Rattle.des.specs.Bits.{bits}
-use Rattle.des.specs.Des.{permute, swap, shiftBoth}
+use Rattle.des.specs.Des.{permute, swap, shift_both}
 use Rattle.des.specs.Words.{up_from}
-use Rattle.fast_des.specs.Networks.{shiftParts}
-use Rattle.fast_des.proofs.LinearLaws.{permutesPowers, shift_word}
+use Rattle.fast_des.specs.Networks.{shift_parts}
+use Rattle.fast_des.proofs.LinearLaws.{permutes_powers, shift_word}
 use Rattle.fast_des.proofs.shift.shift_2.Statement.{statement}
 use Rattle.fast_des.proofs.shift.shift_2.Tie as tie
 
-test : permutesPowers 56 56 (shiftBoth 2 (up_from 1 56)) (shiftParts 2 0xffffffcffffffc 0x30000003) ≡ true
-unfolding permutesPowers all_below same bits permute swap shiftBoth shiftParts
+test : permutes_powers 56 56 (shift_both 2 (up_from 1 56)) (shift_parts 2 0xffffffcffffffc 0x30000003) ≡ true
+unfolding permutes_powers all_below same bits permute swap shift_both shift_parts
 test = refl
 
 shift-parts-requires : tie.Need-shift-parts-requires

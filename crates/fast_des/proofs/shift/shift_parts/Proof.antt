@@ -1,7 +1,7 @@
 -- `fast_des::shift::shift_parts` meets its contract.
 -- Assumes nothing.
 use mathlib.Core.Path.{refl}
-use Rattle.fast_des.specs.Networks.{shiftParts}
+use Rattle.fast_des.specs.Networks.{shift_parts}
 use borrow.Author.Rules.{rules}
 use Rattle.fast_des.proofs.shift.shift_parts.Statement.{statement}
 use Rattle.fast_des.proofs.shift.shift_parts.Tie as tie
@@ -16,7 +16,7 @@ shr-result : tie.Need-overflow-shr-result
 shr-result c = search rules
 
 returns : tie.Need-returns
-unfolding shiftParts
+unfolding shift_parts
 returns c = refl
 
 pub shift-parts-spec : {M : Type 1} → statement M

@@ -1,7 +1,7 @@
 -- `lines::connections::name_field` meets its contract.
 -- Assumes nothing.
 use mathlib.Core.Path.{sym, ◌∙◌}
-use Rattle.lines.specs.Connections.{nameField}
+use Rattle.lines.specs.Connections.{name_field}
 use borrow.Author.Rules.{rules}
 use Rattle.lines.proofs.connections.name_field.Statement.{statement}
 use Rattle.lines.proofs.connections.name_field.Tie as tie
@@ -16,7 +16,7 @@ same-requires : tie.Need-same-requires
 same-requires c κs = search rules
 
 returns : tie.Need-returns
-unfolding nameField
+unfolding name_field
 returns c =
     let test = c.before in
     let w = test.before.before in
@@ -29,7 +29,7 @@ same-requires-2 : tie.Need-same-requires-2
 same-requires-2 c κs = search rules
 
 returns-2 : tie.Need-returns-2
-unfolding nameField
+unfolding name_field
 returns-2 c =
     let second = c.before in
     let if1 = second.before.before in
@@ -38,7 +38,7 @@ returns-2 c =
     rw (← w.word.ensures) (simp (sym test.same.ensures ∙ if1.if1.false, sym second.same2.ensures ∙ c.if2.true))
 
 returns-3 : tie.Need-returns-3
-unfolding nameField
+unfolding name_field
 returns-3 c =
     let second = c.before in
     let if1 = second.before.before in

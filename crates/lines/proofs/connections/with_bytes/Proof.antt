@@ -1,7 +1,7 @@
 -- `lines::connections::with_bytes` meets its contract.
 -- Assumes nothing.
 use mathlib.Core.Path.{sym}
-use Rattle.lines.specs.Connections.{bytesAsked}
+use Rattle.lines.specs.Connections.{bytes_asked}
 use borrow.Author.Rules.{rules}
 use Rattle.lines.proofs.connections.with_bytes.Statement.{statement}
 use Rattle.lines.proofs.connections.with_bytes.Tie as tie
@@ -16,13 +16,13 @@ enum-known-f : tie.Need-enum-known-f
 enum-known-f c = search rules
 
 returns : tie.Need-returns
-unfolding bytesAsked
+unfolding bytes_asked
 returns c =
     let first = c.before.before in
     simp (sym first.bytes-field.ensures, c.enum_told.given.1)
 
 returns-2 : tie.Need-returns-2
-unfolding bytesAsked
+unfolding bytes_asked
 returns-2 c =
     let bound = c.before in
     let first = bound.before.before in

@@ -3,14 +3,14 @@
 use mathlib.Core.Path.{◌≡◌, refl, sym, subst, ◌∙◌}
 use Prim.Native.Nat.{ℕ, ◌-◌, ◌≤◌, ◌<◌}
 use lib.ListN.{length, drop}
-use Rattle.lines.specs.Digits.{areDigits}
-use Rattle.lines.proofs.DigitLaws.{digits-turn, digits-fail, digits-end}
+use Rattle.lines.specs.Digits.{are_digits}
+use Rattle.lines.proofs.DigitLaws.{digits_turn, digits_fail, digits-end}
 use native.Mathlib.Omega.{arith}
 use Rattle.lines.proofs.digits.are_digits.Statement.{statement}
 use Rattle.lines.proofs.digits.are_digits.Tie as tie
 
 abbrev invariant-loop : tie.invariant-loop
-invariant-loop s base i₀ i = (i ≤ length s) × (areDigits base s ≡ areDigits base (drop i s))
+invariant-loop s base i₀ i = (i ≤ length s) × (are_digits base s ≡ are_digits base (drop i s))
 
 abbrev decreases-loop : tie.decreases-loop
 decreases-loop s base i₀ i = length s - i
@@ -30,7 +30,7 @@ returns c =
     let loop = digit.before.before.before in
     let a = loop.before.before.args in
     sym (loop.loop.invariant.1
-    ∙ digits-fail a.base a.s.now loop.loop.i (omega arith) (subst (λ (x : ℕ). a.base ≤ x) digit.digit.ensures c.if1.true))
+    ∙ digits_fail a.base a.s.now loop.loop.i (omega arith) (subst (λ (x : ℕ). a.base ≤ x) digit.digit.ensures c.if1.true))
 
 add-i : tie.Need-overflow-add-i invariant-loop decreases-loop
 add-i c = omega arith
@@ -45,7 +45,7 @@ loop-again c =
     let a = loop.before.before.args in (
       omega arith,
       loop.loop.invariant.1
-          ∙ digits-turn a.base a.s.now loop.loop.i (omega arith) (subst (λ (x : ℕ). x < a.base) digit.digit.ensures c.if1.false),
+          ∙ digits_turn a.base a.s.now loop.loop.i (omega arith) (subst (λ (x : ℕ). x < a.base) digit.digit.ensures c.if1.false),
     )
 
 returns-2 : tie.Need-returns-2 invariant-loop decreases-loop

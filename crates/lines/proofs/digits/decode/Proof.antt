@@ -1,7 +1,7 @@
 -- `lines::digits::decode` meets its contract.
 -- Assumes nothing.
 use native.Mathlib.Nat.{min-le_left, min-le_right}
-use Rattle.octets.proofs.BoolLaws.{test-holds, test-fails}
+use Rattle.octets.proofs.BoolLaws.{test-holds, test_fails}
 use Rattle.lines.proofs.HexLaws.{none_read, all_read}
 use Prim.Native.Nat.{◌/◌}
 use lib.ListN.{length}
@@ -17,7 +17,7 @@ returns : tie.Need-returns
 returns c =
     let test = c.before in
     let start = test.before.before.before in
-    none_read start.args.s.now start.args.out.now (test-fails test.are-digits.result test.are-digits.ensures c.if1.true)
+    none_read start.args.s.now start.args.out.now (test_fails test.are-digits.result test.are-digits.ensures c.if1.true)
 
 least-requires : tie.Need-least-requires
 least-requires c κs = search rules

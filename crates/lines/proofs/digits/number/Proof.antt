@@ -5,7 +5,7 @@ use mathlib.Core.Path.{◌≡◌, refl, sym, ap, subst, subst⁻¹, ◌∙◌}
 use Prim.Native.Nat.{ℕ, ◌+◌, ◌-◌, ◌*◌, ◌≤◌, ◌<◌, ◌^◌}
 use lib.ListN.{length, get_or, drop}
 use Rattle.lines.specs.Digits.{digit, numeral}
-use Rattle.lines.proofs.DigitLaws.{digit_at, numeral-turn, numeral-end, numeral-grow, numeral-room}
+use Rattle.lines.proofs.DigitLaws.{digit_at, numeral_turn, numeral-end, numeral-grow, numeral-room}
 use native.Mathlib.Omega.{arith}
 use Rattle.lines.proofs.digits.number.Statement.{statement}
 use Rattle.lines.proofs.digits.number.Tie as tie
@@ -70,7 +70,7 @@ loop-again c =
       omega arith,
       subst⁻¹ (λ (d : ℕ). loop.loop.r * a.base + d < 2 ^ (4 * (loop.loop.i + 1))) e (grown turn),
       loop.loop.invariant.2
-          ∙ numeral-turn a.base loop.loop.r a.s.now loop.loop.i (omega arith)
+          ∙ numeral_turn a.base loop.loop.r a.s.now loop.loop.i (omega arith)
           ∙ ap (λ (d : ℕ). numeral a.base (loop.loop.r * a.base + d) (drop (loop.loop.i + 1) a.s.now)) (sym e),
     )
 

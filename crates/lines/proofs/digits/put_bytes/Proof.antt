@@ -5,15 +5,15 @@ use Prim.Native.Nat.{ℕ, ◌+◌, ◌*◌, ◌-◌, ◌≤◌, ◌<◌}
 use lib.ListN.{length, get_or, take, length-set}
 use Rattle.octets.specs.Bytes.{splice}
 use Rattle.octets.proofs.SpliceLaws.{splice-none}
-use Rattle.lines.specs.Digits.{digit, fromHex}
+use Rattle.lines.specs.Digits.{digit, from_hex}
 use Rattle.lines.proofs.DigitLaws.{digit_at}
-use Rattle.lines.proofs.HexLaws.{bytes-turn}
+use Rattle.lines.proofs.HexLaws.{bytes_turn}
 use native.Mathlib.Omega.{arith}
 use Rattle.lines.proofs.digits.put_bytes.Statement.{statement}
 use Rattle.lines.proofs.digits.put_bytes.Tie as tie
 
 abbrev invariant-loop : tie.invariant-loop
-invariant-loop s out₀ n i₀ out i = (i ≤ n) × (length out ≡ length out₀) × (out ≡ splice out₀ 0 (take i (fromHex s)))
+invariant-loop s out₀ n i₀ out i = (i ≤ n) × (length out ≡ length out₀) × (out ≡ splice out₀ 0 (take i (from_hex s)))
 
 abbrev decreases-loop : tie.decreases-loop
 decreases-loop s out₀ n i₀ out i = n - i
@@ -80,7 +80,7 @@ loop-again c =
     let a = start.args in (
       omega arith,
       simp length-set loop.loop.invariant.1,
-      bytes-turn a.s.now a.out.now loop.loop.out loop.loop.i first.digit.result c.digit2.result (omega (arith, start.requires)) (omega (arith, start.requires))
+      bytes_turn a.s.now a.out.now loop.loop.out loop.loop.i first.digit.result c.digit2.result (omega (arith, start.requires)) (omega (arith, start.requires))
           first.digit.ensures
           c.digit2.ensures
           loop.loop.invariant.2,
@@ -94,7 +94,7 @@ returns c =
     let loop = c.before in
     let a = loop.before.before.before.args in
     let e : loop.loop.i ≡ a.n = omega arith in
-    loop.loop.invariant.2 ∙ ap (λ (k : ℕ). splice a.out.now 0 (take k (fromHex a.s.now))) e
+    loop.loop.invariant.2 ∙ ap (λ (k : ℕ). splice a.out.now 0 (take k (from_hex a.s.now))) e
 
 pub put-bytes-spec : {M : Type 1} → statement M
 put-bytes-spec =

@@ -5,20 +5,20 @@ use Prim.Native.Nat.{ℕ, ◌*◌, ◌-◌, ◌≤◌}
 use lib.ListN.{length, take, length-set}
 use Rattle.octets.specs.Bytes.{splice}
 use Rattle.octets.proofs.SpliceLaws.{splice-none}
-use Rattle.lines.specs.Digits.{toHex}
-use Rattle.lines.proofs.HexLaws.{digits-turn}
+use Rattle.lines.specs.Digits.{to_hex}
+use Rattle.lines.proofs.HexLaws.{digits_turn}
 use native.Mathlib.Omega.{arith}
 use Rattle.lines.proofs.digits.put_digits.Statement.{statement}
 use Rattle.lines.proofs.digits.put_digits.Tie as tie
 
 abbrev invariant-loop : tie.invariant-loop
-invariant-loop s out₀ n i₀ out i = (i ≤ n) × (length out ≡ length out₀) × (out ≡ splice out₀ 0 (toHex (take i s)))
+invariant-loop s out₀ n i₀ out i = (i ≤ n) × (length out ≡ length out₀) × (out ≡ splice out₀ 0 (to_hex (take i s)))
 
 abbrev decreases-loop : tie.decreases-loop
 decreases-loop s out₀ n i₀ out i = n - i
 
 loop-holds : tie.Need-loop-init invariant-loop decreases-loop
-unfolding toHex
+unfolding to_hex
 loop-holds c = (omega arith, refl, sym (splice-none _ 0))
 
 shared-slice-read-glyph : tie.Need-shared-slice-read-glyph invariant-loop decreases-loop
@@ -62,7 +62,7 @@ loop-again c =
     let a = start.args in (
       omega arith,
       simp length-set loop.loop.invariant.1,
-      digits-turn a.s.now a.out.now loop.loop.out loop.loop.i first.glyph.result c.glyph2.result (omega (arith, start.requires)) (omega (arith, start.requires))
+      digits_turn a.s.now a.out.now loop.loop.out loop.loop.i first.glyph.result c.glyph2.result (omega (arith, start.requires)) (omega (arith, start.requires))
           first.glyph.ensures
           c.glyph2.ensures
           loop.loop.invariant.2,
@@ -76,7 +76,7 @@ returns c =
     let loop = c.before in
     let a = loop.before.before.before.args in
     let e : loop.loop.i ≡ a.n = omega arith in
-    loop.loop.invariant.2 ∙ ap (λ (k : ℕ). splice a.out.now 0 (toHex (take k a.s.now))) e
+    loop.loop.invariant.2 ∙ ap (λ (k : ℕ). splice a.out.now 0 (to_hex (take k a.s.now))) e
 
 pub put-digits-spec : {M : Type 1} → statement M
 put-digits-spec =

@@ -1,6 +1,6 @@
 -- `lines::fields::bytes_field` meets its contract.
 -- Assumes nothing.
-use Rattle.octets.proofs.BoolLaws.{test-holds, test-fails}
+use Rattle.octets.proofs.BoolLaws.{test-holds, test_fails}
 use Rattle.lines.proofs.FieldLaws.{bytes-not, bytes-odd, bytes-value}
 use borrow.Author.Rules.{rules}
 use Rattle.lines.proofs.fields.bytes_field.Statement.{statement}
@@ -16,7 +16,7 @@ returns : tie.Need-returns
 returns c =
     let test = c.before in
     let w = test.before in
-    rw (← w.word.ensures) (bytes-not w.word.result.now (test-fails test.are-digits.result test.are-digits.ensures c.if1.true))
+    rw (← w.word.ensures) (bytes-not w.word.result.now (test_fails test.are-digits.result test.are-digits.ensures c.if1.true))
 
 returns-2 : tie.Need-returns-2
 returns-2 c =

@@ -1,6 +1,6 @@
 -- `lines::fields::decimal_field` meets its contract.
 -- Assumes nothing.
-use Rattle.octets.proofs.BoolLaws.{test-holds, test-fails}
+use Rattle.octets.proofs.BoolLaws.{test-holds, test_fails}
 use Rattle.lines.proofs.FieldLaws.{decimal-not, decimal-long, decimal-low, decimal-high, decimal-value}
 use borrow.Author.Rules.{rules}
 use native.Mathlib.Omega.{arith}
@@ -18,7 +18,7 @@ returns c =
     let test = c.before in
     let w = test.before in
     let a = w.before.before.args in
-    rw (← w.word.ensures) (decimal-not w.word.result.now a.least a.most (test-fails test.are-digits.result test.are-digits.ensures c.if1.true))
+    rw (← w.word.ensures) (decimal-not w.word.result.now a.least a.most (test_fails test.are-digits.result test.are-digits.ensures c.if1.true))
 
 returns-2 : tie.Need-returns-2
 returns-2 c =

@@ -1,7 +1,7 @@
 -- `lines::fields::hex_field` meets its contract.
 -- Assumes nothing.
-use Rattle.octets.proofs.BoolLaws.{test-holds, test-fails}
-use Rattle.lines.proofs.FieldLaws.{hex-not, hex-other, hex-value}
+use Rattle.octets.proofs.BoolLaws.{test-holds, test_fails}
+use Rattle.lines.proofs.FieldLaws.{hex_not, hex_other, hex_value}
 use borrow.Author.Rules.{rules}
 use native.Mathlib.Omega.{arith}
 use Rattle.lines.proofs.fields.hex_field.Statement.{statement}
@@ -18,7 +18,7 @@ returns c =
     let test = c.before in
     let w = test.before in
     let start = w.before.before in
-    rw (← w.word.ensures) (hex-not w.word.result.now start.args.digits (test-fails test.are-digits.result test.are-digits.ensures c.if1.true))
+    rw (← w.word.ensures) (hex_not w.word.result.now start.args.digits (test_fails test.are-digits.result test.are-digits.ensures c.if1.true))
 
 returns-2 : tie.Need-returns-2
 returns-2 c =
@@ -26,7 +26,7 @@ returns-2 c =
     let test = if1.before in
     let w = test.before in
     let start = w.before.before in
-    rw (← w.word.ensures) (hex-other w.word.result.now start.args.digits (test-holds test.are-digits.result test.are-digits.ensures if1.if1.false) c.if2.true)
+    rw (← w.word.ensures) (hex_other w.word.result.now start.args.digits (test-holds test.are-digits.result test.are-digits.ensures if1.if1.false) c.if2.true)
 
 number-requires : tie.Need-number-requires
 number-requires c κs =
@@ -40,7 +40,7 @@ returns-3 c =
     let test = if1.before in
     let w = test.before in
     let start = w.before.before in
-    rw (← w.word.ensures) (hex-value w.word.result.now start.args.digits c.number.result (test-holds test.are-digits.result test.are-digits.ensures if1.if1.false) c.before.if2.false c.number.ensures)
+    rw (← w.word.ensures) (hex_value w.word.result.now start.args.digits c.number.result (test-holds test.are-digits.result test.are-digits.ensures if1.if1.false) c.before.if2.false c.number.ensures)
 
 pub hex-field-spec : {M : Type 1} → statement M
 hex-field-spec =

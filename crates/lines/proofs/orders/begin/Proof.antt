@@ -1,7 +1,7 @@
 -- `lines::orders::begin` meets its contract.
 -- Assumes nothing.
 use mathlib.Core.Path.{sym}
-use Rattle.lines.specs.Orders.{beginOrder}
+use Rattle.lines.specs.Orders.{begin_order}
 use borrow.Author.Rules.{rules}
 use native.Mathlib.Omega.{arith}
 use Rattle.lines.proofs.orders.begin.Statement.{statement}
@@ -17,7 +17,7 @@ enum-known-f : tie.Need-enum-known-f
 enum-known-f c = search rules
 
 returns : tie.Need-returns
-unfolding beginOrder
+unfolding begin_order
 returns c =
     let bound = c.before in
     let first = bound.before.before in
@@ -33,7 +33,7 @@ enum-known-f-2 : tie.Need-enum-known-f-2
 enum-known-f-2 c = search rules
 
 returns-2 : tie.Need-returns-2
-unfolding beginOrder
+unfolding begin_order
 returns-2 c =
     let bound = c.before in
     let second = bound.before.before in
@@ -81,7 +81,7 @@ enum-known-f-3 : tie.Need-enum-known-f-3
 enum-known-f-3 c = search rules
 
 returns-3 : tie.Need-returns-3
-unfolding beginOrder
+unfolding begin_order
 returns-3 c =
     let bound = c.before in
     let third = bound.before.before in
@@ -92,7 +92,7 @@ returns-3 c =
     simp (sym first.hex-field.ensures.is, first-value.v.given.1, sym second.hex-field2.ensures.is, second-value.v2.given.1, sym third.decimal-field.ensures.is, bound.v3.given.1)
 
 returns-4 : tie.Need-returns-4
-unfolding beginOrder
+unfolding begin_order
 returns-4 c =
     let bound = c.before in
     let third = bound.before.before in

@@ -1,6 +1,6 @@
 -- `lines::orders::command_of` meets its contract.
 -- Assumes nothing.
-use Rattle.lines.specs.Orders.{text_of, named_in, commandOf}
+use Rattle.lines.specs.Orders.{text_of, named_in, command_of}
 use borrow.Author.Rules.{rules}
 use Rattle.lines.proofs.orders.command_of.Statement.{statement}
 use Rattle.lines.proofs.orders.command_of.Tie as tie
@@ -45,7 +45,7 @@ or-else-requires-6 : tie.Need-or-else-requires-6
 or-else-requires-6 c κs = search rules
 
 returns : tie.Need-returns
-unfolding commandOf named_in text_of
+unfolding command_of named_in text_of
 returns c =
     let o5 = c.before.before in
     let o4 = o5.before.before in

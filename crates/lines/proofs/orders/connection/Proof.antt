@@ -1,7 +1,7 @@
 -- `lines::orders::connection` meets its contract.
 -- Assumes nothing.
 use mathlib.Core.Path.{sym}
-use Rattle.lines.specs.Orders.{connectionOrder}
+use Rattle.lines.specs.Orders.{connection_order}
 use borrow.Author.Rules.{rules}
 use Rattle.lines.proofs.orders.connection.Statement.{statement}
 use Rattle.lines.proofs.orders.connection.Tie as tie
@@ -16,7 +16,7 @@ enum-known-f : tie.Need-enum-known-f
 enum-known-f c = search rules
 
 returns : tie.Need-returns
-unfolding connectionOrder
+unfolding connection_order
 returns c =
     let bound = c.before in
     let first = bound.before.before in
@@ -32,7 +32,7 @@ enum-known-f-2 : tie.Need-enum-known-f-2
 enum-known-f-2 c = search rules
 
 returns-2 : tie.Need-returns-2
-unfolding connectionOrder
+unfolding connection_order
 returns-2 c =
     let bound = c.before in
     let second = bound.before.before in
@@ -41,7 +41,7 @@ returns-2 c =
     simp (sym first.name-field.ensures, first-value.v.given.1, sym second.fields-of.ensures, bound.asked.given.1)
 
 returns-3 : tie.Need-returns-3
-unfolding connectionOrder
+unfolding connection_order
 returns-3 c =
     let bound = c.before in
     let second = bound.before.before in

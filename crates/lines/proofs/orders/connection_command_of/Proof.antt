@@ -1,6 +1,6 @@
 -- `lines::orders::connection_command_of` meets its contract.
 -- Assumes nothing.
-use Rattle.lines.specs.Connections.{verbText}
+use Rattle.lines.specs.Connections.{verb_text}
 use Rattle.lines.specs.Orders.{text_of, named_in}
 use borrow.Author.Rules.{rules}
 use Rattle.lines.proofs.orders.connection_command_of.Statement.{statement}
@@ -40,7 +40,7 @@ or-else-requires-5 : tie.Need-or-else-requires-5
 or-else-requires-5 c κs = search rules
 
 returns : tie.Need-returns
-unfolding named_in text_of verbText
+unfolding named_in text_of verb_text
 returns c =
     let o4 = c.before.before in
     let o3 = o4.before.before in

@@ -1,7 +1,7 @@
 -- `lines::orders::edition` meets its contract.
 -- Assumes nothing.
 use mathlib.Core.Path.{sym}
-use Rattle.lines.specs.Orders.{editionOrder}
+use Rattle.lines.specs.Orders.{edition_order}
 use borrow.Author.Rules.{rules}
 use Rattle.lines.proofs.orders.edition.Statement.{statement}
 use Rattle.lines.proofs.orders.edition.Tie as tie
@@ -16,14 +16,14 @@ enum-known-f : tie.Need-enum-known-f
 enum-known-f c = search rules
 
 returns : tie.Need-returns
-unfolding editionOrder
+unfolding edition_order
 returns c =
     let bound = c.before in
     let first = bound.before.before in
     simp (sym first.decimal-field.ensures.is, bound.v.given.1)
 
 returns-2 : tie.Need-returns-2
-unfolding editionOrder
+unfolding edition_order
 returns-2 c =
     let bound = c.before in
     let first = bound.before.before in

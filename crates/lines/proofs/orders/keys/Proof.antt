@@ -1,7 +1,7 @@
 -- `lines::orders::keys` meets its contract.
 -- Assumes nothing.
 use mathlib.Core.Path.{sym}
-use Rattle.lines.specs.Orders.{keysOrder}
+use Rattle.lines.specs.Orders.{keys_order}
 use borrow.Author.Rules.{rules}
 use Rattle.lines.proofs.orders.keys.Statement.{statement}
 use Rattle.lines.proofs.orders.keys.Tie as tie
@@ -16,7 +16,7 @@ enum-known-f : tie.Need-enum-known-f
 enum-known-f c = search rules
 
 returns : tie.Need-returns
-unfolding keysOrder
+unfolding keys_order
 returns c =
     let bound = c.before in
     let first = bound.before.before in
@@ -32,7 +32,7 @@ enum-known-f-2 : tie.Need-enum-known-f-2
 enum-known-f-2 c = search rules
 
 returns-2 : tie.Need-returns-2
-unfolding keysOrder
+unfolding keys_order
 returns-2 c =
     let bound = c.before in
     let second = bound.before.before in
@@ -50,7 +50,7 @@ enum-known-f-3 : tie.Need-enum-known-f-3
 enum-known-f-3 c = search rules
 
 returns-3 : tie.Need-returns-3
-unfolding keysOrder
+unfolding keys_order
 returns-3 c =
     let bound = c.before in
     let third = bound.before.before in
@@ -61,7 +61,7 @@ returns-3 c =
     simp (sym first.decimal-field.ensures.is, first-value.v.given.1, sym second.hex-field.ensures.is, second-value.v2.given.1, sym third.hex-field2.ensures.is, bound.v3.given.1)
 
 returns-4 : tie.Need-returns-4
-unfolding keysOrder
+unfolding keys_order
 returns-4 c =
     let bound = c.before in
     let third = bound.before.before in

@@ -1,9 +1,9 @@
 -- `lines::orders::read` meets its contract.
 -- Assumes nothing.
 use mathlib.Core.Path.{sym, ap, ◌∙◌}
-use Rattle.lines.specs.Orders.{namedOrder}
+use Rattle.lines.specs.Orders.{named_order}
 use Rattle.lines.specs.declared.orders.Named.{Named}
-use Rattle.lines.proofs.OrderLaws.{a-note, no_word, a_word}
+use Rattle.lines.proofs.OrderLaws.{a_note, no_word, a_word}
 use borrow.Author.Rules.{rules}
 use Rattle.lines.proofs.orders.read.Statement.{statement}
 use Rattle.lines.proofs.orders.read.Tie as tie
@@ -15,7 +15,7 @@ returns : tie.Need-returns
 returns c =
     let note = c.before in
     let start = note.before.before in
-    a-note start.args.line.now note.is-note.result note.is-note.ensures c.if1.true
+    a_note start.args.line.now note.is-note.result note.is-note.ensures c.if1.true
 
 word-requires : tie.Need-word-requires
 word-requires c κs = search rules
@@ -41,7 +41,7 @@ enum_told : tie.Need-enum-told
 enum_told c = search rules
 
 returns-3 : tie.Need-returns-3
-unfolding namedOrder
+unfolding named_order
 returns-3 c =
     let named = c.before.before in
     let of = named.before.before in
@@ -52,11 +52,11 @@ returns-3 c =
     let start = note.before.before in
     let s = start.args.line.now in
     c.read-command.ensures
-    ∙ sym (ap (λ (n : Named). namedOrder n s) named.command.given.1)
+    ∙ sym (ap (λ (n : Named). named_order n s) named.command.given.1)
     ∙ a_word s note.is-note.result note.is-note.ensures if1.if1.false w.word.result.now w.word.ensures if2.if2.false of.command-of.result of.command-of.ensures
 
 returns-4 : tie.Need-returns-4
-unfolding namedOrder
+unfolding named_order
 returns-4 c =
     let of = c.before.before in
     let if2 = of.before in
@@ -65,7 +65,7 @@ returns-4 c =
     let note = if1.before in
     let start = note.before.before in
     let s = start.args.line.now in
-    sym (ap (λ (n : Named). namedOrder n s) c.enum_told.given.1)
+    sym (ap (λ (n : Named). named_order n s) c.enum_told.given.1)
     ∙ a_word s note.is-note.result note.is-note.ensures if1.if1.false w.word.result.now w.word.ensures if2.if2.false of.command-of.result of.command-of.ensures
 
 pub read_spec : {M : Type 1} → statement M

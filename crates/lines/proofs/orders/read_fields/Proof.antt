@@ -1,7 +1,7 @@
 -- `lines::orders::read_fields` meets its contract.
 -- Assumes nothing.
 use mathlib.Core.Path.{sym}
-use Rattle.lines.specs.Orders.{fieldsOrder}
+use Rattle.lines.specs.Orders.{fields_order}
 use borrow.Author.Rules.{rules}
 use Rattle.lines.proofs.orders.read_fields.Statement.{statement}
 use Rattle.lines.proofs.orders.read_fields.Tie as tie
@@ -73,55 +73,55 @@ enum-told-12 : tie.Need-enum-told-12
 enum-told-12 c = search rules
 
 returns : tie.Need-returns
-unfolding fieldsOrder
+unfolding fields_order
 returns c = simp (c.before.enum_told.given.1, sym c.begin.ensures)
 
 returns-2 : tie.Need-returns-2
-unfolding fieldsOrder
+unfolding fields_order
 returns-2 c = simp (c.before.enum-told2.given.1, sym c.with-bytes.ensures)
 
 returns-3 : tie.Need-returns-3
-unfolding fieldsOrder
+unfolding fields_order
 returns-3 c = simp (c.before.enum-told3.given.1, sym c.search.ensures)
 
 returns-4 : tie.Need-returns-4
-unfolding fieldsOrder
+unfolding fields_order
 returns-4 c = simp (c.before.enum-told4.given.1, sym c.keys.ensures)
 
 returns-5 : tie.Need-returns-5
-unfolding fieldsOrder
+unfolding fields_order
 returns-5 c = simp (c.before.enum-told5.given.1, sym c.build.ensures)
 
 returns-6 : tie.Need-returns-6
-unfolding fieldsOrder
+unfolding fields_order
 returns-6 c = simp (c.before.enum-told6.given.1, sym c.check.ensures)
 
 returns-7 : tie.Need-returns-7
-unfolding fieldsOrder
+unfolding fields_order
 returns-7 c = simp (c.before.before.command.given.1, sym c.connection.ensures)
 
 returns-8 : tie.Need-returns-8
-unfolding fieldsOrder
+unfolding fields_order
 returns-8 c = simp (c.before.enum-told7.given.1, sym c.with-bytes2.ensures)
 
 returns-9 : tie.Need-returns-9
-unfolding fieldsOrder
+unfolding fields_order
 returns-9 c = simp (c.before.enum-told8.given.1, sym c.edition.ensures)
 
 returns-10 : tie.Need-returns-10
-unfolding fieldsOrder
+unfolding fields_order
 returns-10 c = simp c.enum-told9.given.1
 
 returns-11 : tie.Need-returns-11
-unfolding fieldsOrder
+unfolding fields_order
 returns-11 c = simp c.enum-told10.given.1
 
 returns-12 : tie.Need-returns-12
-unfolding fieldsOrder
+unfolding fields_order
 returns-12 c = simp c.enum-told11.given.1
 
 returns-13 : tie.Need-returns-13
-unfolding fieldsOrder
+unfolding fields_order
 returns-13 c = simp c.enum-told12.given.1
 
 pub read-fields-spec : {M : Type 1} → statement M

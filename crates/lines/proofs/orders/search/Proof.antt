@@ -1,7 +1,7 @@
 -- `lines::orders::search` meets its contract.
 -- Assumes nothing.
 use mathlib.Core.Path.{sym}
-use Rattle.lines.specs.Orders.{searchOrder}
+use Rattle.lines.specs.Orders.{search_order}
 use borrow.Author.Rules.{rules}
 use native.Mathlib.Omega.{arith}
 use Rattle.lines.proofs.orders.search.Statement.{statement}
@@ -17,7 +17,7 @@ enum-known-f : tie.Need-enum-known-f
 enum-known-f c = search rules
 
 returns : tie.Need-returns
-unfolding searchOrder
+unfolding search_order
 returns c =
     let bound = c.before in
     let first = bound.before.before in
@@ -49,7 +49,7 @@ enum-known-f-2 : tie.Need-enum-known-f-2
 enum-known-f-2 c = search rules
 
 returns-2 : tie.Need-returns-2
-unfolding searchOrder
+unfolding search_order
 returns-2 c =
     let bound = c.before in
     let second = bound.before.before in
@@ -58,7 +58,7 @@ returns-2 c =
     simp (sym first.hex-field.ensures.is, first-value.v.given.1, sym second.hex-field2.ensures.is, bound.v2.given.1)
 
 returns-3 : tie.Need-returns-3
-unfolding searchOrder
+unfolding search_order
 returns-3 c =
     let bound = c.before in
     let second = bound.before.before in

@@ -1,6 +1,6 @@
 -- `lines::orders::transport_command_of` meets its contract.
 -- Assumes nothing.
-use Rattle.lines.specs.Connections.{verbText}
+use Rattle.lines.specs.Connections.{verb_text}
 use Rattle.lines.specs.Orders.{text_of, named_in}
 use borrow.Author.Rules.{rules}
 use Rattle.lines.proofs.orders.transport_command_of.Statement.{statement}
@@ -46,7 +46,7 @@ or-else-requires-6 : tie.Need-or-else-requires-6
 or-else-requires-6 c κs = search rules
 
 returns : tie.Need-returns
-unfolding named_in text_of verbText
+unfolding named_in text_of verb_text
 returns c =
     let o5 = c.before.before in
     let o4 = o5.before.before in

@@ -1,7 +1,7 @@
 -- `lines::orders::unit_field` meets its contract.
 -- Assumes nothing.
 use mathlib.Core.Path.{sym}
-use Rattle.lines.specs.Orders.{unitField}
+use Rattle.lines.specs.Orders.{unit_field}
 use borrow.Author.Rules.{rules}
 use native.Mathlib.Omega.{arith}
 use Rattle.lines.proofs.orders.unit_field.Statement.{statement}
@@ -17,7 +17,7 @@ enum-known-f : tie.Need-enum-known-f
 enum-known-f c = search rules
 
 returns : tie.Need-returns
-unfolding unitField
+unfolding unit_field
 returns c =
     let bound = c.before in
     let first = bound.before.before in
@@ -33,7 +33,7 @@ enum-known-f-2 : tie.Need-enum-known-f-2
 enum-known-f-2 c = search rules
 
 returns-2 : tie.Need-returns-2
-unfolding unitField
+unfolding unit_field
 returns-2 c =
     let bound = c.before in
     let second = bound.before.before in
@@ -59,7 +59,7 @@ enum-known-f-3 : tie.Need-enum-known-f-3
 enum-known-f-3 c = search rules
 
 returns-3 : tie.Need-returns-3
-unfolding unitField
+unfolding unit_field
 returns-3 c =
     let third = c.before.before in
     let second-value = third.before.before in
@@ -69,7 +69,7 @@ returns-3 c =
     simp (sym first.hex-field.ensures.is, first-value.v.given.1, sym second.decimal-field.ensures.is, second-value.v2.given.1, sym third.bytes-field.ensures, c.enum_told.given.1)
 
 returns-4 : tie.Need-returns-4
-unfolding unitField
+unfolding unit_field
 returns-4 c =
     let bound = c.before in
     let third = bound.before.before in

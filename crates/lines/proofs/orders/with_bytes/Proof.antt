@@ -1,7 +1,7 @@
 -- `lines::orders::with_bytes` meets its contract.
 -- Assumes nothing.
 use mathlib.Core.Path.{sym}
-use Rattle.lines.specs.Orders.{bytesOrder}
+use Rattle.lines.specs.Orders.{bytes_order}
 use borrow.Author.Rules.{rules}
 use Rattle.lines.proofs.orders.with_bytes.Statement.{statement}
 use Rattle.lines.proofs.orders.with_bytes.Tie as tie
@@ -16,13 +16,13 @@ enum-known-f : tie.Need-enum-known-f
 enum-known-f c = search rules
 
 returns : tie.Need-returns
-unfolding bytesOrder
+unfolding bytes_order
 returns c =
     let first = c.before.before in
     simp (sym first.bytes-field.ensures, c.enum_told.given.1)
 
 returns-2 : tie.Need-returns-2
-unfolding bytesOrder
+unfolding bytes_order
 returns-2 c =
     let bound = c.before in
     let first = bound.before.before in

@@ -3,14 +3,14 @@
 use mathlib.Core.Path.{◌≡◌, refl, sym, ◌∙◌}
 use Prim.Native.Nat.{◌-◌, ◌≤◌}
 use lib.ListN.{length}
-use Rattle.lines.specs.Words.{firstFrom}
-use Rattle.lines.proofs.WordLaws.{first-here, first-turn, first-end}
+use Rattle.lines.specs.Words.{first_from}
+use Rattle.lines.proofs.WordLaws.{first-here, first_turn, first-end}
 use native.Mathlib.Omega.{arith}
 use Rattle.lines.proofs.words.first.Statement.{statement}
 use Rattle.lines.proofs.words.first.Tie as tie
 
 abbrev invariant-loop : tie.invariant-loop
-invariant-loop class s i k₀ k = (i ≤ k) × (k ≤ length s) × (firstFrom class s i ≡ firstFrom class s k)
+invariant-loop class s i k₀ k = (i ≤ k) × (k ≤ length s) × (first_from class s i ≡ first_from class s k)
 
 abbrev decreases-loop : tie.decreases-loop
 decreases-loop class s i k₀ k = length s - k
@@ -48,7 +48,7 @@ loop-again c =
     let a = loop.before.before.args in (
       omega arith,
       omega arith,
-      loop.loop.invariant.2 ∙ first-turn a.class a.s.now loop.loop.k (omega arith) (sym test.is-in.ensures ∙ c.if1.false),
+      loop.loop.invariant.2 ∙ first_turn a.class a.s.now loop.loop.k (omega arith) (sym test.is-in.ensures ∙ c.if1.false),
     )
 
 returns-2 : tie.Need-returns-2 invariant-loop decreases-loop

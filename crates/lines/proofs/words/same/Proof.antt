@@ -4,7 +4,7 @@ use mathlib.Core.Path.{◌≡◌, refl, sym, ◌∙◌}
 use Prim.Native.Nat.{◌-◌, ◌≤◌}
 use lib.ListN.{length, drop}
 use Rattle.octets.specs.Bytes.{same}
-use Rattle.lines.proofs.WordLaws.{same_turn, same-fails, same_end, same-lengths}
+use Rattle.lines.proofs.WordLaws.{same_turn, same_fails, same_end, same_lengths}
 use native.Mathlib.Omega.{arith}
 use Rattle.lines.proofs.words.same.Statement.{statement}
 use Rattle.lines.proofs.words.same.Tie as tie
@@ -16,7 +16,7 @@ abbrev decreases-loop : tie.decreases-loop
 decreases-loop a b i₀ i = length a - i
 
 returns : tie.Need-returns invariant-loop decreases-loop
-returns c = let a = c.before.args in sym (same-lengths a.a.now a.b.now c.if1.true)
+returns c = let a = c.before.args in sym (same_lengths a.a.now a.b.now c.if1.true)
 
 loop-holds : tie.Need-loop-init invariant-loop decreases-loop
 loop-holds c = (omega arith, omega arith, refl)
@@ -31,7 +31,7 @@ returns-2 : tie.Need-returns-2 invariant-loop decreases-loop
 returns-2 c =
     let loop = c.before.before.before.before in
     let a = loop.before.before.args in
-    sym (loop.loop.invariant.2 ∙ same-fails a.a.now a.b.now loop.loop.i (omega arith) (omega arith) c.if2.true)
+    sym (loop.loop.invariant.2 ∙ same_fails a.a.now a.b.now loop.loop.i (omega arith) (omega arith) c.if2.true)
 
 add-i : tie.Need-overflow-add-i invariant-loop decreases-loop
 add-i c = omega arith

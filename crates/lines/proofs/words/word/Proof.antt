@@ -3,14 +3,14 @@
 use mathlib.Core.Path.{◌≡◌}
 use Prim.Native.Nat.{◌-◌, ◌≤◌}
 use lib.ListN.{length}
-use Rattle.lines.specs.Words.{wordStart}
-use Rattle.lines.proofs.WordLaws.{first_word, next_word, this-word}
+use Rattle.lines.specs.Words.{word_start}
+use Rattle.lines.proofs.WordLaws.{first_word, next_word, this_word}
 use native.Mathlib.Omega.{arith}
 use Rattle.lines.proofs.words.word.Statement.{statement}
 use Rattle.lines.proofs.words.word.Tie as tie
 
 abbrev invariant-loop : tie.invariant-loop
-invariant-loop s k at₀ j₀ at j = (j ≤ k) × (at ≤ length s) × (at ≡ wordStart s j)
+invariant-loop s k at₀ j₀ at j = (j ≤ k) × (at ≤ length s) × (at ≡ word_start s j)
 
 abbrev decreases-loop : tie.decreases-loop
 decreases-loop s k at₀ j₀ at j = k - j
@@ -58,7 +58,7 @@ returns c =
     let end = c.before in
     let loop = end.before.before in
     let start = loop.before.before.before in
-    this-word start.args.s.now start.args.k loop.loop.j loop.loop.at end.first4.result (omega arith) loop.loop.invariant.2 end.first4.ensures.is
+    this_word start.args.s.now start.args.k loop.loop.j loop.loop.at end.first4.result (omega arith) loop.loop.invariant.2 end.first4.ensures.is
 
 pub word-spec : {M : Type 1} → statement M
 word-spec =

@@ -3,7 +3,7 @@
 use mathlib.Core.Path.{sym, ◌∙◌}
 use Prim.Native.Nat.{◌-◌}
 use borrow.Author.Rules.{rules}
-use Rattle.message.proofs.BodyLaws.{add-short, add-wrong, add-rest}
+use Rattle.message.proofs.BodyLaws.{add-short, add_wrong, add-rest}
 use native.Mathlib.Omega.{arith}
 use Rattle.message.proofs.body.add_size.Statement.{statement}
 use Rattle.message.proofs.body.add_size.Tie as tie
@@ -15,7 +15,7 @@ shared-slice-read-if2 : tie.Need-shared-slice-read-if2
 shared-slice-read-if2 c = search rules
 
 returns-2 : tie.Need-returns-2
-returns-2 c = let a = c.before.before.before.before.args in sym (add-wrong a.m.now a.i c.if2.true)
+returns-2 c = let a = c.before.before.before.before.args in sym (add_wrong a.m.now a.i c.if2.true)
 
 peers-size-requires : tie.Need-peers-size-requires
 peers-size-requires c κs = search rules

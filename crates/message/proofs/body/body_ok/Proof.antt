@@ -1,12 +1,12 @@
--- `message::body::body_ok` meets its contract.
+-- `message::body::body_fits` meets its contract.
 -- Assumes nothing.
 use mathlib.Core.Path.{sym, ap, ◌∙◌}
 use Prim.Native.Nat.{◌-◌}
 use borrow.Author.Rules.{rules}
-use Rattle.message.specs.Body.{bodyOk}
+use Rattle.message.specs.Body.{body_ok}
 use Rattle.message.specs.declared.Task.{Task}
-use Rattle.message.proofs.body.body_ok.Statement.{statement}
-use Rattle.message.proofs.body.body_ok.Tie as tie
+use Rattle.message.proofs.body.body_fits.Statement.{statement}
+use Rattle.message.proofs.body.body_fits.Tie as tie
 
 enum-known-task : tie.Need-enum-known-task
 enum-known-task c = search rules
@@ -21,22 +21,22 @@ enum-told-2 : tie.Need-enum-told-2
 enum-told-2 c = search rules
 
 returns : tie.Need-returns
-unfolding bodyOk
+unfolding body_ok
 returns c =
     let a = c.before.before.before.before.before.args in
-    c.list-ok.ensures ∙ ap (λ (k : Task). bodyOk k a.m.now) (sym c.before.before.task.given.1)
+    c.list-ok.ensures ∙ ap (λ (k : Task). body_ok k a.m.now) (sym c.before.before.task.given.1)
 
 returns-2 : tie.Need-returns-2
-unfolding bodyOk
+unfolding body_ok
 returns-2 c =
     let a = c.before.before.before.args in
-    ap (λ (k : Task). bodyOk k a.m.now) (sym c.enum_told.given.1)
+    ap (λ (k : Task). body_ok k a.m.now) (sym c.enum_told.given.1)
 
 returns-3 : tie.Need-returns-3
-unfolding bodyOk
+unfolding body_ok
 returns-3 c =
     let a = c.before.before.before.args in
-    ap (λ (k : Task). bodyOk k a.m.now) (sym c.enum-told2.given.1)
+    ap (λ (k : Task). body_ok k a.m.now) (sym c.enum-told2.given.1)
 
 pub body-ok-spec : {M : Type 1} → statement M
 body-ok-spec =

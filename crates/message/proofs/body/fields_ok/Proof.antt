@@ -5,15 +5,15 @@ use Prim.Native.Nat.{◌-◌, ◌≤◌}
 use native.Mathlib.Nat.{sub-zero}
 use borrow.Author.Rules.{rules}
 use lib.ListN.{length}
-use Rattle.message.specs.Body.{sized, fieldsFrom}
+use Rattle.message.specs.Body.{sized, fields_from}
 use Rattle.message.specs.declared.Sized.TheVariants.{Size}
-use Rattle.message.proofs.BodyLaws.{size_fits, fields-turn, fields-bad, fields-end}
+use Rattle.message.proofs.BodyLaws.{size_fits, fields_turn, fields-bad, fields-end}
 use native.Mathlib.Omega.{arith}
 use Rattle.message.proofs.body.fields_ok.Statement.{statement}
 use Rattle.message.proofs.body.fields_ok.Tie as tie
 
 abbrev invariant-loop : tie.invariant-loop
-invariant-loop command m n i₀ k₀ i k = (k ≤ n) × ((i ≤ length m) × (fieldsFrom command m 22 n ≡ fieldsFrom command m i (n - k)))
+invariant-loop command m n i₀ k₀ i k = (k ≤ n) × ((i ≤ length m) × (fields_from command m 22 n ≡ fields_from command m i (n - k)))
 
 abbrev decreases-loop : tie.decreases-loop
 decreases-loop command m n i₀ k₀ i k = n - k
@@ -50,7 +50,7 @@ loop-again c =
       omega arith,
       (
         size_fits a.command a.m.now l.loop.i s e,
-        l.loop.invariant.1.1 ∙ fields-turn a.command a.m.now l.loop.i a.n l.loop.k s (omega arith) e,
+        l.loop.invariant.1.1 ∙ fields_turn a.command a.m.now l.loop.i a.n l.loop.k s (omega arith) e,
       ),
     )
 

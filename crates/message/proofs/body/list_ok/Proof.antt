@@ -3,13 +3,13 @@
 use mathlib.Core.Path.{sym, ◌∙◌}
 use Prim.Native.Nat.{◌-◌}
 use borrow.Author.Rules.{rules}
-use Rattle.message.proofs.BodyLaws.{list-short, list-none, list-many, list-fields}
+use Rattle.message.proofs.BodyLaws.{list_short, list_none, list_many, list_fields}
 use native.Mathlib.Omega.{arith}
 use Rattle.message.proofs.body.list_ok.Statement.{statement}
 use Rattle.message.proofs.body.list_ok.Tie as tie
 
 returns : tie.Need-returns
-returns c = let a = c.before.before.args in sym (list-short a.command a.m.now (omega arith))
+returns c = let a = c.before.before.args in sym (list_short a.command a.m.now (omega arith))
 
 number-at-requires : tie.Need-number-at-requires
 number-at-requires c κs = search rules
@@ -18,7 +18,7 @@ returns-2 : tie.Need-returns-2
 returns-2 c =
     let n = c.before in
     let a = n.before.before.before.args in
-    sym (list-none a.command a.m.now n.number_at.result n.number_at.ensures.0 (omega arith))
+    sym (list_none a.command a.m.now n.number_at.result n.number_at.ensures.0 (omega arith))
 
 most-of-requires : tie.Need-most-of-requires
 most-of-requires c κs = search rules
@@ -28,7 +28,7 @@ returns-3 c =
     let most = c.before in
     let n = most.before.before in
     let a = n.before.before.before.args in
-    sym (list-many a.command a.m.now n.number_at.result n.number_at.ensures.0 (omega (arith, most.most-of.ensures)))
+    sym (list_many a.command a.m.now n.number_at.result n.number_at.ensures.0 (omega (arith, most.most-of.ensures)))
 
 fields-ok-requires : tie.Need-fields-ok-requires
 fields-ok-requires c κs = search rules
@@ -38,7 +38,7 @@ returns-4 c =
     let most = c.before.before in
     let n = most.before.before in
     let a = n.before.before.before.args in
-    c.fields-ok.ensures ∙ sym (list-fields a.command a.m.now n.number_at.result n.number_at.ensures.0 (omega arith) (omega (arith, most.most-of.ensures)))
+    c.fields-ok.ensures ∙ sym (list_fields a.command a.m.now n.number_at.result n.number_at.ensures.0 (omega arith) (omega (arith, most.most-of.ensures)))
 
 pub list-ok-spec : {M : Type 1} → statement M
 list-ok-spec =

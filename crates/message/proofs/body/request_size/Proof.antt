@@ -5,7 +5,7 @@ use Prim.Native.Nat.{◌-◌}
 use borrow.Author.Rules.{rules}
 use Rattle.message.specs.Body.{sized}
 use Rattle.message.specs.declared.Command.{Command}
-use Rattle.message.proofs.BodyLaws.{deletes-size, validities-size, entities-size}
+use Rattle.message.proofs.BodyLaws.{deletes-size, validities_size, entities-size}
 use Rattle.message.proofs.body.request_size.Statement.{statement}
 use Rattle.message.proofs.body.request_size.Tie as tie
 
@@ -46,7 +46,7 @@ returns-2 c =
 returns-3 : tie.Need-returns-3
 returns-3 c =
     let a = c.before.before.before.before.args in
-    c.fixed-size2.ensures ∙ sym (validities-size a.m.now a.i) ∙ ap (λ (k : Command). sized k a.m.now a.i) (sym c.before.enum-told3.given.1)
+    c.fixed-size2.ensures ∙ sym (validities_size a.m.now a.i) ∙ ap (λ (k : Command). sized k a.m.now a.i) (sym c.before.enum-told3.given.1)
 
 returns-4 : tie.Need-returns-4
 returns-4 c =

@@ -5,7 +5,7 @@ use Prim.Native.Nat.{◌+◌, ◌-◌, ◌≤◌}
 use native.Mathlib.Nat.{add-zero, sub-zero}
 use Rattle.octets.specs.Bytes.{part}
 use Rattle.octets.specs.Words.{elem}
-use Rattle.message.proofs.WrittenLaws.{elem-found, elem-turn, elem_end}
+use Rattle.message.proofs.WrittenLaws.{elem-found, elem_turn, elem_end}
 use native.Mathlib.Omega.{arith}
 use Rattle.message.proofs.written.has_version.Statement.{statement}
 use Rattle.message.proofs.written.has_version.Tie as tie
@@ -41,7 +41,7 @@ loop-again : tie.Need-loop-preserved invariant-loop decreases-loop
 loop-again c =
     let l = c.before.before.before in
     let a = l.before.args in
-    (omega arith, l.loop.invariant.1 ∙ elem-turn a.m.now a.i a.n l.loop.k (omega arith) l.before.requires c.if1.false)
+    (omega arith, l.loop.invariant.1 ∙ elem_turn a.m.now a.i a.n l.loop.k (omega arith) l.before.requires c.if1.false)
 
 returns-2 : tie.Need-returns-2 invariant-loop decreases-loop
 returns-2 c =

@@ -3,7 +3,7 @@
 use mathlib.Core.Path.{sym, ◌∙◌}
 use Prim.Native.Nat.{◌-◌}
 use borrow.Author.Rules.{rules}
-use Rattle.message.proofs.WrittenLaws.{init-short, init-length, init-list}
+use Rattle.message.proofs.WrittenLaws.{init-short, init-length, init_list}
 use native.Mathlib.Omega.{arith}
 use Rattle.message.proofs.written.init_ok.Statement.{statement}
 use Rattle.message.proofs.written.init_ok.Tie as tie
@@ -31,7 +31,7 @@ has-version-requires c κs = search rules
 returns-3 : tie.Need-returns-3
 returns-3 c =
     let m = c.before.before.before.before.before.args.m.now in
-    c.has-version.ensures ∙ sym (init-list m (omega arith) c.before.if2.false)
+    c.has-version.ensures ∙ sym (init_list m (omega arith) c.before.if2.false)
 
 pub init-ok-spec : {M : Type 1} → statement M
 init-ok-spec =

@@ -22,10 +22,10 @@ framed k =
 -- where a record is put: the store as it came has room for it
 record Roomy (L : Limits) (s m : List ℕ) (new : Addition) (n p : ℕ) : Type 0 where
   pub store : Framed L s
-  pub keys-left : n < L.keys
-  pub peers-left : p + new.count ≤ L.peers
+  pub keys_left : n < L.keys
+  pub peers_left : p + new.count ≤ L.peers
   pub key-inside : new.kmac + 24 ≤ length m
-  pub peers-inside : new.peers + 4 * new.count ≤ length m
+  pub peers_inside : new.peers + 4 * new.count ≤ length m
 
 roomy : (k : tie.After-number-at2) → let one = k.before.before in let a = one.before.before.before.before.args in
     Roomy a.lim a.s.now a.m.now a.new one.number_at.result k.number-at2.result
@@ -37,10 +37,10 @@ roomy k =
     let two-says = k.number-at2.ensures in
     record {
       store = framed known;
-      keys-left = omega (arith, start.requires.1.0.0);
-      peers-left = omega (arith, start.requires.1.0.1);
+      keys_left = omega (arith, start.requires.1.0.0);
+      peers_left = omega (arith, start.requires.1.0.1);
       key-inside = start.requires.1.1.0;
-      peers-inside = start.requires.1.1.1;
+      peers_inside = start.requires.1.1.1;
     }
 
 number-at-requires : tie.Need-number-at-requires

@@ -6,8 +6,8 @@ use lib.Dec.{eqb}
 use Prim.Native.Nat.{ℕ, ◌+◌, ◌-◌}
 use borrow.Author.Tests.{eq-eqb, ne_eqb}
 use Rattle.octets.specs.Bytes.{get32}
-use Rattle.octets.proofs.BoolLaws.{and-false-left}
-use Rattle.store.specs.Layout.{recordAt}
+use Rattle.octets.proofs.BoolLaws.{and_false_left}
+use Rattle.store.specs.Layout.{record_at}
 use borrow.Author.Rules.{rules}
 use Rattle.requests.proofs.held.has_key.Statement.{statement}
 use Rattle.requests.proofs.held.has_key.Tie as tie
@@ -26,9 +26,9 @@ returns c =
     let get32-at = c.before in
     let start = get32-at.before.before in
     let a = start.args in
-    let r : ℕ = recordAt a.i in
+    let r : ℕ = record_at a.i in
     let s = a.s.now in
-    sym (and-false-left (eqb (get32 s r) a.issuer) (eqb (get32 s (r + 4)) a.serial) (ne_eqb (get32 s r) a.issuer (λ e. c.if1.true (get32-at.get32-at.ensures ∙ e))))
+    sym (and_false_left (eqb (get32 s r) a.issuer) (eqb (get32 s (r + 4)) a.serial) (ne_eqb (get32 s r) a.issuer (λ e. c.if1.true (get32-at.get32-at.ensures ∙ e))))
 
 add-get32-at : tie.Need-overflow-add-get32-at
 add-get32-at c = search rules
@@ -42,7 +42,7 @@ returns-2 c =
     let get32-at = if1.before in
     let start = get32-at.before.before in
     let a = start.args in
-    let r : ℕ = recordAt a.i in
+    let r : ℕ = record_at a.i in
     let s = a.s.now in
     ap (λ (x : ℕ). eqb x a.serial) c.get32-at2.ensures
     ∙ sym (ap (λ (x : Bool). x && eqb (get32 s (r + 4)) a.serial) (eq-eqb (get32 s r) a.issuer (sym get32-at.get32-at.ensures ∙ if1.if1.false)))

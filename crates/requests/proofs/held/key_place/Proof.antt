@@ -4,16 +4,16 @@ use mathlib.Core.Path.{◌≡◌, sym, ◌∙◌}
 use lib.ListN.{length}
 use Prim.Native.Nat.{◌+◌, ◌-◌, ◌≤◌, ◌<◌}
 use native.Mathlib.Omega.{arith}
-use Rattle.store.specs.Layout.{recordAt}
-use Rattle.store.specs.Store.{keyCount, entries, entriesFrom}
-use Rattle.store.specs.Search.{placeWhere}
-use Rattle.store.specs.Request.{has_key, keyPlace}
-use Rattle.store.proofs.SearchLaws.{place-start, place-turn, place_here, place_end}
+use Rattle.store.specs.Layout.{record_at}
+use Rattle.store.specs.Store.{key_count, entries, entries_from}
+use Rattle.store.specs.Search.{place_where}
+use Rattle.store.specs.Request.{has_key, key_place}
+use Rattle.store.proofs.SearchLaws.{place-start, place_turn, place_here, place_end}
 use Rattle.requests.proofs.held.key_place.Statement.{statement}
 use Rattle.requests.proofs.held.key_place.Tie as tie
 
 abbrev invariant-loop : tie.invariant-loop
-invariant-loop s lim issuer serial n i₀ i = (i ≤ n) × (n ≡ keyCount s) × (n < 65536) × (recordAt n ≤ length s) × (keyPlace issuer serial (entries lim s) ≡ i + placeWhere (has_key issuer serial) (entriesFrom lim s i (n - i)))
+invariant-loop s lim issuer serial n i₀ i = (i ≤ n) × (n ≡ key_count s) × (n < 65536) × (record_at n ≤ length s) × (key_place issuer serial (entries lim s) ≡ i + place_where (has_key issuer serial) (entries_from lim s i (n - i)))
 
 abbrev decreases-loop : tie.decreases-loop
 decreases-loop s lim issuer serial n i₀ i = n - i
@@ -63,7 +63,7 @@ loop-again c =
       loop.loop.invariant.2,
       loop.loop.invariant.3,
       loop.loop.invariant.4
-          ∙ place-turn (has_key a.issuer a.serial) a.lim a.s.now number_at.number_at.result loop.loop.i (omega arith) (sym has_key_lem.has_key_lem.ensures ∙ c.if1.false),
+          ∙ place_turn (has_key a.issuer a.serial) a.lim a.s.now number_at.number_at.result loop.loop.i (omega arith) (sym has_key_lem.has_key_lem.ensures ∙ c.if1.false),
     )
 
 returns-2 : tie.Need-returns-2 invariant-loop decreases-loop

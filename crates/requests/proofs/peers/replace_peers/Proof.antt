@@ -6,7 +6,7 @@ use native.Mathlib.Omega.{arith}
 use Rattle.store.proofs.SearchLaws.{Room, room}
 use Rattle.requests.proofs.AroundLaws.{around, Fit, fit}
 use Rattle.requests.proofs.PeersLaws.{peers-written}
-use Rattle.store.specs.Store.{peerCount, count}
+use Rattle.store.specs.Store.{peer_count, count}
 use borrow.Author.Rules.{rules}
 use Rattle.requests.proofs.peers.replace_peers.Statement.{statement}
 use Rattle.requests.proofs.peers.replace_peers.Tie as tie
@@ -32,35 +32,35 @@ mul-replace c =
     let counts-at = c.before in
     let start = counts-at.before.before.before.before in
     let r = fitting counts-at in
-    omega (arith, counts-at.counts-at.ensures.peers-are, counts-at.counts-at.ensures.count-is, start.requires.1.1.0)
+    omega (arith, counts-at.counts-at.ensures.peers_are, counts-at.counts-at.ensures.count_is, start.requires.1.1.0)
 
 add-replace : tie.Need-overflow-add-replace
 add-replace c =
     let counts-at = c.before in
     let start = counts-at.before.before.before.before in
     let r = fitting counts-at in
-    omega (arith, counts-at.counts-at.ensures.peers-are, counts-at.counts-at.ensures.count-is, start.requires.1.1.0)
+    omega (arith, counts-at.counts-at.ensures.peers_are, counts-at.counts-at.ensures.count_is, start.requires.1.1.0)
 
 mul-replace-2 : tie.Need-overflow-mul-replace-2
 mul-replace-2 c =
     let counts-at = c.before in
     let start = counts-at.before.before.before.before in
     let r = fitting counts-at in
-    omega (arith, counts-at.counts-at.ensures.peers-are, counts-at.counts-at.ensures.count-is, start.requires.1.1.0)
+    omega (arith, counts-at.counts-at.ensures.peers_are, counts-at.counts-at.ensures.count_is, start.requires.1.1.0)
 
 add-replace-2 : tie.Need-overflow-add-replace-2
 add-replace-2 c =
     let counts-at = c.before in
     let start = counts-at.before.before.before.before in
     let r = fitting counts-at in
-    omega (arith, counts-at.counts-at.ensures.peers-are, counts-at.counts-at.ensures.count-is, start.requires.1.1.0)
+    omega (arith, counts-at.counts-at.ensures.peers_are, counts-at.counts-at.ensures.count_is, start.requires.1.1.0)
 
 mul-replace-3 : tie.Need-overflow-mul-replace-3
 mul-replace-3 c =
     let counts-at = c.before in
     let start = counts-at.before.before.before.before in
     let r = fitting counts-at in
-    omega (arith, counts-at.counts-at.ensures.peers-are, counts-at.counts-at.ensures.count-is, start.requires.1.1.0)
+    omega (arith, counts-at.counts-at.ensures.peers_are, counts-at.counts-at.ensures.count_is, start.requires.1.1.0)
 
 mul-replace-4 : tie.Need-overflow-mul-replace-4
 mul-replace-4 c = search rules
@@ -70,49 +70,49 @@ sub-replace c =
     let counts-at = c.before in
     let start = counts-at.before.before.before.before in
     let r = fitting counts-at in
-    omega (arith, counts-at.counts-at.ensures.peers-are, counts-at.counts-at.ensures.count-is, start.requires.1.1.0)
+    omega (arith, counts-at.counts-at.ensures.peers_are, counts-at.counts-at.ensures.count_is, start.requires.1.1.0)
 
 sub-replace-2 : tie.Need-overflow-sub-replace-2
 sub-replace-2 c =
     let counts-at = c.before in
     let start = counts-at.before.before.before.before in
     let r = fitting counts-at in
-    omega (arith, counts-at.counts-at.ensures.peers-are, counts-at.counts-at.ensures.count-is, start.requires.1.1.0)
+    omega (arith, counts-at.counts-at.ensures.peers_are, counts-at.counts-at.ensures.count_is, start.requires.1.1.0)
 
 mul-replace-5 : tie.Need-overflow-mul-replace-5
 mul-replace-5 c =
     let counts-at = c.before in
     let start = counts-at.before.before.before.before in
     let r = fitting counts-at in
-    omega (arith, counts-at.counts-at.ensures.peers-are, counts-at.counts-at.ensures.count-is, start.requires.1.1.0)
+    omega (arith, counts-at.counts-at.ensures.peers_are, counts-at.counts-at.ensures.count_is, start.requires.1.1.0)
 
 replace-requires : tie.Need-replace-requires
 replace-requires c κs =
     let counts-at = c.before in
     let start = counts-at.before.before.before.before in
     let r = fitting counts-at in
-    omega (arith, start.requires.1.1.1, counts-at.counts-at.ensures.peers-are, counts-at.counts-at.ensures.count-is, start.requires.1.1.0)
+    omega (arith, start.requires.1.1.1, counts-at.counts-at.ensures.peers_are, counts-at.counts-at.ensures.count_is, start.requires.1.1.0)
 
 mul-put-share : tie.Need-overflow-mul-put-share
 mul-put-share c =
     let counts-at = c.before.before.before.before.before in
     let start = counts-at.before.before.before.before in
     let r = fitting counts-at in
-    omega (arith, counts-at.counts-at.ensures.peers-are, counts-at.counts-at.ensures.count-is, start.requires.1.1.0)
+    omega (arith, counts-at.counts-at.ensures.peers_are, counts-at.counts-at.ensures.count_is, start.requires.1.1.0)
 
 add-put-share : tie.Need-overflow-add-put-share
 add-put-share c =
     let counts-at = c.before.before.before.before.before in
     let start = counts-at.before.before.before.before in
     let r = fitting counts-at in
-    omega (arith, counts-at.counts-at.ensures.peers-are, counts-at.counts-at.ensures.count-is, start.requires.1.1.0)
+    omega (arith, counts-at.counts-at.ensures.peers_are, counts-at.counts-at.ensures.count_is, start.requires.1.1.0)
 
 add-put-share-2 : tie.Need-overflow-add-put-share-2
 add-put-share-2 c =
     let counts-at = c.before.before.before.before.before in
     let start = counts-at.before.before.before.before in
     let r = fitting counts-at in
-    omega (arith, counts-at.counts-at.ensures.peers-are, counts-at.counts-at.ensures.count-is, start.requires.1.1.0)
+    omega (arith, counts-at.counts-at.ensures.peers_are, counts-at.counts-at.ensures.count_is, start.requires.1.1.0)
 
 put-share-requires : tie.Need-put-share-requires
 put-share-requires c κs =
@@ -120,7 +120,7 @@ put-share-requires c κs =
     let counts-at = replace.before.before in
     let start = counts-at.before.before.before.before in
     let r = fitting counts-at in
-    omega (arith, replace.replace.auto.0, counts-at.counts-at.ensures.peers-are, counts-at.counts-at.ensures.count-is, start.requires.1.1.0)
+    omega (arith, replace.replace.auto.0, counts-at.counts-at.ensures.peers_are, counts-at.counts-at.ensures.count_is, start.requires.1.1.0)
 
 mul-renumber : tie.Need-overflow-mul-renumber
 mul-renumber c =
@@ -128,7 +128,7 @@ mul-renumber c =
     let counts-at = put-share-arg-at.before.before.before.before.before in
     let start = counts-at.before.before.before.before in
     let r = fitting counts-at in
-    omega (arith, counts-at.counts-at.ensures.peers-are, counts-at.counts-at.ensures.count-is, start.requires.1.1.0)
+    omega (arith, counts-at.counts-at.ensures.peers_are, counts-at.counts-at.ensures.count_is, start.requires.1.1.0)
 
 add-renumber : tie.Need-overflow-add-renumber
 add-renumber c =
@@ -136,7 +136,7 @@ add-renumber c =
     let counts-at = put-share-arg-at.before.before.before.before.before in
     let start = counts-at.before.before.before.before in
     let r = fitting counts-at in
-    omega (arith, counts-at.counts-at.ensures.peers-are, counts-at.counts-at.ensures.count-is, start.requires.1.1.0)
+    omega (arith, counts-at.counts-at.ensures.peers_are, counts-at.counts-at.ensures.count_is, start.requires.1.1.0)
 
 add-renumber-2 : tie.Need-overflow-add-renumber-2
 add-renumber-2 c =
@@ -144,7 +144,7 @@ add-renumber-2 c =
     let counts-at = put-share-arg-at.before.before.before.before.before in
     let start = counts-at.before.before.before.before in
     let r = fitting counts-at in
-    omega (arith, counts-at.counts-at.ensures.peers-are, counts-at.counts-at.ensures.count-is, start.requires.1.1.0)
+    omega (arith, counts-at.counts-at.ensures.peers_are, counts-at.counts-at.ensures.count_is, start.requires.1.1.0)
 
 sub-renumber : tie.Need-overflow-sub-renumber
 sub-renumber c = search rules
@@ -158,7 +158,7 @@ add-renumber-3 c =
     let counts-at = put-share-arg-at.before.before.before.before.before in
     let start = counts-at.before.before.before.before in
     let r = fitting counts-at in
-    omega (arith, counts-at.counts-at.ensures.peers-are, counts-at.counts-at.ensures.count-is, start.requires.1.1.0)
+    omega (arith, counts-at.counts-at.ensures.peers_are, counts-at.counts-at.ensures.count_is, start.requires.1.1.0)
 
 renumber-requires : tie.Need-renumber-requires
 renumber-requires c κs =
@@ -167,7 +167,7 @@ renumber-requires c κs =
     let counts-at = replace.before.before in
     let start = counts-at.before.before.before.before in
     let r = fitting counts-at in
-    omega (arith, replace.replace.auto.0, put-share.put-share.auto.0, counts-at.counts-at.ensures.peers-are, counts-at.counts-at.ensures.count-is, start.requires.1.1.0)
+    omega (arith, replace.replace.auto.0, put-share.put-share.auto.0, counts-at.counts-at.ensures.peers_are, counts-at.counts-at.ensures.count_is, start.requires.1.1.0)
 
 sub-put-counts : tie.Need-overflow-sub-put-counts
 sub-put-counts c =
@@ -176,7 +176,7 @@ sub-put-counts c =
     let counts-at = put-share-arg-at.before.before.before.before.before in
     let start = counts-at.before.before.before.before in
     let r = fitting counts-at in
-    omega (arith, counts-at.counts-at.ensures.peers-are, counts-at.counts-at.ensures.count-is, start.requires.1.1.0)
+    omega (arith, counts-at.counts-at.ensures.peers_are, counts-at.counts-at.ensures.count_is, start.requires.1.1.0)
 
 add-put-counts : tie.Need-overflow-add-put-counts
 add-put-counts c = search rules
@@ -190,7 +190,7 @@ put-counts-requires c κs =
     let start = counts-at.before.before.before.before in
     let r = fitting counts-at in
     omega
-    (arith, replace.replace.auto.0, put-share.put-share.auto.0, renumber.renumber.auto.0, counts-at.counts-at.ensures.peers-are, counts-at.counts-at.ensures.count-is, start.requires.1.1.0)
+    (arith, replace.replace.auto.0, put-share.put-share.auto.0, renumber.renumber.auto.0, counts-at.counts-at.ensures.peers_are, counts-at.counts-at.ensures.count_is, start.requires.1.1.0)
 
 same_length : tie.Need-same-length
 same_length c =
@@ -214,11 +214,11 @@ returns c =
     let s = a.s.now in
     let q = counts-at.counts-at.result in
     let says = counts-at.counts-at.ensures in
-    let fits : peerCount s - count s a.i + a.new ≤ a.lim.peers = start.requires.1.1.0 in
+    let fits : peer_count s - count s a.i + a.new ≤ a.lim.peers = start.requires.1.1.0 in
     peers-written a.lim s a.m.now a.i a.at a.new q.keys q.peers q.first q.count
     replace.replace.new.0 put-share.put-share.new.0 renumber.renumber.new.0 put-counts.put-counts.new.0
     (around a.lim s a.i q.keys q.peers q.first q.count (λ j. (slice-known.slice-known.given j).fits) start.requires.0 start.requires.1.0
-    says.keys-are says.peers-are says.first-is says.count-is)
+    says.keys_are says.peers_are says.first_is says.count_is)
     (λ j. (shared-slice-known.shared-slice-known.given j).fits) start.requires.1.1.1 (omega arith)
     replace.replace.ensures put-share.put-share.ensures renumber.renumber.ensures put-counts.put-counts.ensures
 

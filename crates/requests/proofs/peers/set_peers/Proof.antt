@@ -3,7 +3,7 @@
 use native.Mathlib.Omega.{arith}
 use Rattle.store.proofs.SearchLaws.{Room, room}
 use Rattle.requests.proofs.AroundLaws.{around, Fit, fit}
-use Rattle.requests.proofs.PeersLaws.{peers-overwritten}
+use Rattle.requests.proofs.PeersLaws.{peers_overwritten}
 use borrow.Author.Rules.{rules}
 use Rattle.requests.proofs.peers.set_peers.Statement.{statement}
 use Rattle.requests.proofs.peers.set_peers.Tie as tie
@@ -60,9 +60,9 @@ returns c =
     let a = start.args in
     let q = counts-at.counts-at.result in
     let says = counts-at.counts-at.ensures in
-    peers-overwritten a.lim a.s.now a.m.now a.i a.at a.new q.keys q.peers q.first q.count copy.copy.new.0
+    peers_overwritten a.lim a.s.now a.m.now a.i a.at a.new q.keys q.peers q.first q.count copy.copy.new.0
     (around a.lim a.s.now a.i q.keys q.peers q.first q.count (λ j. (slice-known.slice-known.given j).fits) start.requires.0 start.requires.1.0
-    says.keys-are says.peers-are says.first-is says.count-is)
+    says.keys_are says.peers_are says.first_is says.count_is)
     (λ j. (shared-slice-known.shared-slice-known.given j).fits) start.requires.1.1.1 copy.before.before.if1.true copy.copy.ensures
 
 replace-peers-requires : tie.Need-replace-peers-requires

@@ -4,7 +4,7 @@ use mathlib.Core.Path.{ap, ◌∙◌}
 use mathlib.Core.List.{List}
 use Prim.Native.Nat.{ℕ, ◌-◌}
 use Rattle.octets.specs.Bytes.{be16, splice}
-use Rattle.requests.specs.Edit.{withCounts}
+use Rattle.requests.specs.Edit.{with_counts}
 use borrow.Author.Rules.{rules}
 use Rattle.requests.proofs.record.put_counts.Statement.{statement}
 use Rattle.requests.proofs.record.put_counts.Tie as tie
@@ -19,7 +19,7 @@ same_length : tie.Need-same-length
 same_length c = search rules
 
 returns : tie.Need-returns
-unfolding withCounts
+unfolding with_counts
 returns c =
     let put-number2 = c.before.before in
     let put-number = put-number2.before.before.before.before in

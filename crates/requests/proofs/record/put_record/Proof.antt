@@ -1,7 +1,7 @@
 -- `requests::record::put_record` meets its contract.
 -- Assumes nothing.
 use Prim.Native.Nat.{◌-◌}
-use Rattle.requests.proofs.RecordLaws.{record-written}
+use Rattle.requests.proofs.RecordLaws.{record_written}
 use borrow.Author.Rules.{rules}
 use Rattle.requests.proofs.record.put_record.Statement.{statement}
 use Rattle.requests.proofs.record.put_record.Tie as tie
@@ -31,7 +31,7 @@ returns c =
     let put-key = put-period.before.before.before.before in
     let start = put-key.before.before.before.before in
     let a = start.args in
-    record-written a.s.now a.m.now a.i a.p a.new put-key.put-key.new.0 put-period.put-period.new.0 put-share.put-share.new.0
+    record_written a.s.now a.m.now a.i a.p a.new put-key.put-key.new.0 put-period.put-period.new.0 put-share.put-share.new.0
     start.requires.0 start.requires.1 put-key.put-key.ensures put-period.put-period.ensures put-share.put-share.ensures
 
 pub put-record-spec : {M : Type 1} → statement M

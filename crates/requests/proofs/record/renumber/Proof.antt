@@ -8,7 +8,7 @@ use native.Mathlib.Omega.{arith}
 use native.Mathlib.Nat.{sub-zero}
 use Rattle.octets.specs.Bytes.{get16}
 use Rattle.requests.specs.Edit.{renumbered}
-use Rattle.requests.proofs.RecordLaws.{renumbered-turn, renumbered-end}
+use Rattle.requests.proofs.RecordLaws.{renumbered_turn, renumbered-end}
 use Rattle.requests.proofs.record.renumber.Statement.{statement}
 use Rattle.requests.proofs.record.renumber.Tie as tie
 
@@ -60,7 +60,7 @@ loop-again c =
       put-number.put-number.auto.0 ∙ l.invariant.3,
       omega arith,
       omega arith,
-      l.invariant.6 ∙ renumbered-turn l.s l.a n l.k l.q loop-test.loop-test.true
+      l.invariant.6 ∙ renumbered_turn l.s l.a n l.k l.q loop-test.loop-test.true
           ∙ ap (λ (x : List ℕ). renumbered x (l.a + 44) (n - (l.k + 1)) (l.q + get16 l.s (l.a + 42))) (sym put-number.put-number.ensures)
           ∙ ap (λ (x : ℕ). renumbered put-number.put-number.new.0 (l.a + 44) (n - (l.k + 1)) (l.q + x)) (sym number_at.number_at.ensures.0),
     )

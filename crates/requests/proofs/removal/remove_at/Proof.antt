@@ -3,10 +3,10 @@
 use mathlib.Core.Path.{refl}
 use mathlib.Core.List.{[]}
 use native.Mathlib.Omega.{arith}
-use Rattle.store.specs.Store.{first, count, peerCount}
+use Rattle.store.specs.Store.{first, count, peer_count}
 use Rattle.store.proofs.SearchLaws.{Framed, frame}
 use Rattle.requests.proofs.AroundLaws.{around}
-use Rattle.requests.proofs.DeleteLaws.{removed-written}
+use Rattle.requests.proofs.DeleteLaws.{removed_written}
 use borrow.Author.Rules.{rules}
 use Rattle.requests.proofs.removal.remove_at.Statement.{statement}
 use Rattle.requests.proofs.removal.remove_at.Tie as tie
@@ -77,9 +77,9 @@ returns c =
     let a = start.args in
     let s = a.s.now in
     let n = number_at.number_at.result in
-    removed-written a.lim s [] a.i n (peerCount s) (first s a.i) (count s a.i)
+    removed_written a.lim s [] a.i n (peer_count s) (first s a.i) (count s a.i)
     replace-peers.replace-peers.new.0 close-gap.close-gap.new.0 put-number.put-number.new.0
-    (around a.lim s a.i n (peerCount s) (first s a.i) (count s a.i) (λ j. (slice-known.slice-known.given j).fits) start.requires.0 start.requires.1
+    (around a.lim s a.i n (peer_count s) (first s a.i) (count s a.i) (λ j. (slice-known.slice-known.given j).fits) start.requires.0 start.requires.1
     number_at.number_at.ensures.0 refl refl refl)
     replace-peers.replace-peers.ensures close-gap.close-gap.ensures put-number.put-number.ensures
 

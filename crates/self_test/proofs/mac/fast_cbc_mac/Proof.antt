@@ -2,7 +2,7 @@
 -- Assumes nothing.
 use mathlib.Core.Path.{ap, ◌∙◌}
 use Rattle.des.specs.Bits.{bits}
-use Rattle.des.specs.Des.{encipherBits, decipherBits}
+use Rattle.des.specs.Des.{encipher_bits, decipher_bits}
 use Rattle.authentication.specs.Keys.{triple}
 use Rattle.self_test.proofs.WordLaws.{chains}
 use borrow.Author.Rules.{rules}
@@ -35,7 +35,7 @@ returns c =
     let a = first.before.before.before.args in
     chains a.k1 a.k2 a.k3 a.x a.y a.z first.fast-encipher.result second.fast-encipher2.result c.fast-encipher4.result
     first.fast-encipher.ensures second.fast-encipher2.ensures
-    (c.fast-encipher4.ensures ∙ ap (encipherBits (bits 64 a.k3)) (fourth.fast-decipher.ensures ∙ ap (decipherBits (bits 64 a.k2)) third.fast-encipher3.ensures))
+    (c.fast-encipher4.ensures ∙ ap (encipher_bits (bits 64 a.k3)) (fourth.fast-decipher.ensures ∙ ap (decipher_bits (bits 64 a.k2)) third.fast-encipher3.ensures))
 
 pub fast-cbc-mac-spec : {M : Type 1} → statement M
 fast-cbc-mac-spec =

@@ -2,7 +2,7 @@
 -- Assumes nothing.
 use mathlib.Core.Path.{ap, ◌∙◌}
 use Rattle.des.specs.Bits.{bits}
-use Rattle.des.specs.Des.{encipherBits}
+use Rattle.des.specs.Des.{encipher_bits}
 use Rattle.self_test.proofs.WordLaws.{macs}
 use borrow.Author.Rules.{rules}
 use borrow.Author.Rules.{rules}
@@ -25,7 +25,7 @@ returns c =
     let start = chained.before.before in
     let a = start.args in
     macs a.k1 a.k2 a.k3 a.destination a.m.now chained.plain-chain.result c.encipher.result start.well-formed.1.1.1.0.1.0.1
-    chained.plain-chain.ensures (c.encipher.ensures ∙ ap (encipherBits (bits 64 a.k3)) deciphered.decipher.ensures)
+    chained.plain-chain.ensures (c.encipher.ensures ∙ ap (encipher_bits (bits 64 a.k3)) deciphered.decipher.ensures)
 
 pub plain-mac-spec : {M : Type 1} → statement M
 plain-mac-spec =

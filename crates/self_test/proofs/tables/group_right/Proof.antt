@@ -2,7 +2,7 @@
 -- Assumes nothing.
 use mathlib.Core.Path.{◌≡◌, ap, ◌∙◌}
 use lib.ListN.{length}
-use Rattle.fast_des.proofs.JoinedLaws.{length-pc2Groups}
+use Rattle.fast_des.proofs.JoinedLaws.{length-pc2_groups}
 use Rattle.self_test.proofs.EntryLaws.{group-same}
 use Prim.Native.Nat.{◌≤◌, ◌-◌}
 use native.Mathlib.Omega.{arith}
@@ -35,7 +35,7 @@ shared-slice-read-if1 : tie.Need-shared-slice-read-if1 invariant-loop decreases-
 shared-slice-read-if1 c =
     let loop = c.before.before.before in
     let start = loop.before.before.before in
-    let long : length start.args.groups.now ≡ 224 = ap length start.requires.1.0 ∙ length-pc2Groups in
+    let long : length start.args.groups.now ≡ 224 = ap length start.requires.1.0 ∙ length-pc2_groups in
     omega (arith, start.requires.0, c.before.before.loop-test.true)
 
 returns : tie.Need-returns invariant-loop decreases-loop

@@ -1,7 +1,7 @@
 -- `self_test::words::fast_decipher` meets its contract.
 -- Assumes nothing.
 use Rattle.des.specs.Bits.{bits}
-use Rattle.des.specs.Des.{decipherBits}
+use Rattle.des.specs.Des.{decipher_bits}
 use borrow.Author.Rules.{rules}
 use borrow.Author.Rules.{rules}
 use Rattle.self_test.proofs.words.fast_decipher.Statement.{statement}
@@ -26,7 +26,7 @@ returns c =
     let a = made.before.before.before.args in
     let key = bits 64 a.key in
     let x = bits 64 a.x in
-    c.leave.ensures.by (decipherBits key x) (c.before.decipher-halves.ensures.by key x made.schedule-by.ensures entered.enter.ensures)
+    c.leave.ensures.by (decipher_bits key x) (c.before.decipher-halves.ensures.by key x made.schedule-by.ensures entered.enter.ensures)
 
 pub fast-decipher-spec : {M : Type 1} → statement M
 fast-decipher-spec =

@@ -2,7 +2,7 @@
 -- Assumes nothing.
 use mathlib.Core.Path.{ap, ◌∙◌}
 use Rattle.des.specs.Bits.{bits}
-use Rattle.des.specs.Des.{encipherBits, decipherBits}
+use Rattle.des.specs.Des.{encipher_bits, decipher_bits}
 use Rattle.authentication.specs.Keys.{triple}
 use borrow.Author.Rules.{rules}
 use borrow.Author.Rules.{rules}
@@ -22,7 +22,7 @@ returns : tie.Need-returns
 unfolding triple
 returns c =
     let a = c.before.before.before.args in
-    c.encipher2.ensures ∙ ap (encipherBits (bits 64 a.k3)) (c.before.decipher.ensures ∙ ap (decipherBits (bits 64 a.k2)) c.before.before.encipher.ensures)
+    c.encipher2.ensures ∙ ap (encipher_bits (bits 64 a.k3)) (c.before.decipher.ensures ∙ ap (decipher_bits (bits 64 a.k2)) c.before.before.encipher.ensures)
 
 pub triple-spec : {M : Type 1} → statement M
 triple-spec = tie.close (tie.spec encipher-requires decipher-requires encipher-requires-2 returns)

@@ -4,7 +4,7 @@ use Rattle.std.proofs.Common.{ℕ, ◌-◌, List, [], sym, refl, ap, arith, rule
 use Rattle.octets.proofs.SpliceLaws.{splice-none}
 use Rattle.session.specs.Sessions.{Open}
 use Rattle.session.specs.Rules.{respond, obey}
-use Rattle.session.proofs.OutcomeLaws.{does-as}
+use Rattle.session.proofs.OutcomeLaws.{does_as}
 use Rattle.session.proofs.Session.delete_all.Statement.{statement}
 use Rattle.session.proofs.Session.delete_all.Tie as tie
 
@@ -27,7 +27,7 @@ returns c =
     let cleared = told.before.before.before.before in
     let start = cleared.before.before.before.before.before in
     let a = start.args in
-    does-as (ap (λ (t : List ℕ). respond 0 [] Open a.self a.m.now t a.out.now) cleared.write-empty.ensures) (told.report.ensures.by cleared.write-empty.new.0 a.out.now [] refl (omega (arith, start.requires.3)) (sym (splice-none a.out.now 23)))
+    does_as (ap (λ (t : List ℕ). respond 0 [] Open a.self a.m.now t a.out.now) cleared.write-empty.ensures) (told.report.ensures.by cleared.write-empty.new.0 a.out.now [] refl (omega (arith, start.requires.3)) (sym (splice-none a.out.now 23)))
 
 pub delete-all-spec : {M : Type 1} → statement M
 delete-all-spec =

@@ -1,13 +1,13 @@
 -- `session::Session::perform` meets its contract.
 -- Assumes nothing.
 use Rattle.std.proofs.Common.{◌≡◌, ◌-◌, true, sym, ap, ◌∙◌, rules}
-use Rattle.octets.proofs.BoolLaws.{test-holds, test-fails}
+use Rattle.octets.proofs.BoolLaws.{test-holds, test_fails}
 use Rattle.message.specs.declared.Task.{Task}
 use Rattle.message.specs.declared.Kind.TheVariants.{Asks}
 use Rattle.message.specs.declared.Task.TheVariants.{Requests}
-use Rattle.message.specs.Body.{bodyOk}
-use Rattle.session.specs.Rules.{judged, typeTest}
-use Rattle.session.proofs.OutcomeLaws.{does-as, body-wrong, list-judged, all-judged, end-judged, ended-does}
+use Rattle.message.specs.Body.{body_ok}
+use Rattle.session.specs.Rules.{judged, type_test}
+use Rattle.session.proofs.OutcomeLaws.{does_as, body_wrong, list_judged, all-judged, end-judged, ended-does}
 use Rattle.session.proofs.Session.perform.Statement.{statement}
 use Rattle.session.proofs.Session.perform.Tie as tie
 
@@ -27,7 +27,7 @@ returns c =
     let body = test.before in
     let start = body.before.before.before.before in
     let a = start.args in
-    does-as (body-wrong a.lim a.self a.m.now a.s.now a.out.now a.task (test-fails body.body_ok.result body.body_ok.ensures test.if1.true)) (called.drop-with.ensures.by a.s.now)
+    does_as (body_wrong a.lim a.self a.m.now a.s.now a.out.now a.task (test_fails body.body_fits.result body.body_fits.ensures test.if1.true)) (called.drop-with.ensures.by a.s.now)
 
 enum-known-task : tie.Need-enum-known-task
 enum-known-task c = search rules
@@ -39,8 +39,8 @@ work-if-sound-requires c κs =
     let body = test.before in
     let start = body.before.before.before.before in
     let a = start.args in
-    let ok : bodyOk a.task a.m.now ≡ true = test-holds body.body_ok.result body.body_ok.ensures test.if1.false in
-    (start.requires.0, start.requires.2, ap (λ (t : Task). bodyOk t a.m.now) (sym list.task.given.1) ∙ ok, start.requires.3)
+    let ok : body_ok a.task a.m.now ≡ true = test-holds body.body_fits.result body.body_fits.ensures test.if1.false in
+    (start.requires.0, start.requires.2, ap (λ (t : Task). body_ok t a.m.now) (sym list.task.given.1) ∙ ok, start.requires.3)
 
 enum_told : tie.Need-enum-told
 enum_told c = search rules
@@ -68,10 +68,10 @@ returns-2 c =
     let body = test.before in
     let start = body.before.before.before.before in
     let a = start.args in
-    let ok : bodyOk a.task a.m.now ≡ true = test-holds body.body_ok.result body.body_ok.ensures test.if1.false in
+    let ok : body_ok a.task a.m.now ≡ true = test-holds body.body_fits.result body.body_fits.ensures test.if1.false in
     let k = list.task.given.0.0 in
     let is : a.task ≡ Requests k = list.task.given.1 in
-    does-as (list-judged a.lim a.self a.m.now a.s.now a.out.now k (ap (λ (t : Task). bodyOk t a.m.now) (sym is) ∙ ok) ∙ ap (λ (t : Task). judged (typeTest (Asks t) a.lim a.m.now a.s.now) a.lim a.self a.m.now a.s.now a.out.now) (sym is)) done.work-if-sound.ensures
+    does_as (list_judged a.lim a.self a.m.now a.s.now a.out.now k (ap (λ (t : Task). body_ok t a.m.now) (sym is) ∙ ok) ∙ ap (λ (t : Task). judged (type_test (Asks t) a.lim a.m.now a.s.now) a.lim a.self a.m.now a.s.now a.out.now) (sym is)) done.work-if-sound.ensures
 
 same-length-4 : tie.Need-same-length-4
 same-length-4 c = search rules
@@ -87,9 +87,9 @@ returns-3 c =
     let body = test.before in
     let start = body.before.before.before.before in
     let a = start.args in
-    let ok : bodyOk a.task a.m.now ≡ true = test-holds body.body_ok.result body.body_ok.ensures test.if1.false in
+    let ok : body_ok a.task a.m.now ≡ true = test-holds body.body_fits.result body.body_fits.ensures test.if1.false in
     let is = told.enum_told.given.1 in
-    does-as (all-judged a.lim a.self a.m.now a.s.now a.out.now (ap (λ (t : Task). bodyOk t a.m.now) (sym is) ∙ ok) ∙ ap (λ (t : Task). judged (typeTest (Asks t) a.lim a.m.now a.s.now) a.lim a.self a.m.now a.s.now a.out.now) (sym is)) done.delete-all.ensures
+    does_as (all-judged a.lim a.self a.m.now a.s.now a.out.now (ap (λ (t : Task). body_ok t a.m.now) (sym is) ∙ ok) ∙ ap (λ (t : Task). judged (type_test (Asks t) a.lim a.m.now a.s.now) a.lim a.self a.m.now a.s.now a.out.now) (sym is)) done.delete_all.ensures
 
 returns-4 : tie.Need-returns-4
 returns-4 c =
@@ -98,9 +98,9 @@ returns-4 c =
     let body = test.before in
     let start = body.before.before.before.before in
     let a = start.args in
-    let ok : bodyOk a.task a.m.now ≡ true = test-holds body.body_ok.result body.body_ok.ensures test.if1.false in
+    let ok : body_ok a.task a.m.now ≡ true = test-holds body.body_fits.result body.body_fits.ensures test.if1.false in
     let is = told.enum-told2.given.1 in
-    does-as (end-judged a.lim a.self a.m.now a.s.now a.out.now (ap (λ (t : Task). bodyOk t a.m.now) (sym is) ∙ ok) ∙ ap (λ (t : Task). judged (typeTest (Asks t) a.lim a.m.now a.s.now) a.lim a.self a.m.now a.s.now a.out.now) (sym is)) (ended-does a.lim a.self a.m.now a.s.now a.out.now c.closed.result c.closed.ensures)
+    does_as (end-judged a.lim a.self a.m.now a.s.now a.out.now (ap (λ (t : Task). body_ok t a.m.now) (sym is) ∙ ok) ∙ ap (λ (t : Task). judged (type_test (Asks t) a.lim a.m.now a.s.now) a.lim a.self a.m.now a.s.now a.out.now) (sym is)) (ended-does a.lim a.self a.m.now a.s.now a.out.now c.closed.result c.closed.ensures)
 
 pub perform-spec : {M : Type 1} → statement M
 perform-spec =

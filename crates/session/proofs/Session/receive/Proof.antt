@@ -2,8 +2,8 @@
 -- Assumes nothing.
 use Rattle.std.proofs.Common.{◌-◌, length, sym, ◌∙◌, rules}
 use Rattle.store.specs.declared.Edition.TheVariants.{Known, Unknown}
-use Rattle.store.proofs.SearchLaws.{editionOf-says}
-use Rattle.session.proofs.OutcomeLaws.{does-as, received, unknown}
+use Rattle.store.proofs.SearchLaws.{edition_of-says}
+use Rattle.session.proofs.OutcomeLaws.{does_as, received, unknown}
 use Rattle.session.proofs.Session.receive.Statement.{statement}
 use Rattle.session.proofs.Session.receive.Tie as tie
 
@@ -18,7 +18,7 @@ receive-in-requires c κs =
     let picked = c.before.before.before in
     let asked = picked.before.before in
     let a = asked.before.before.before.before.args in
-    editionOf-says (length a.store.now) picked.lim.given.0.0 (sym asked.edition-of.ensures ∙ picked.lim.given.1)
+    edition_of-says (length a.store.now) picked.lim.given.0.0 (sym asked.edition-of.ensures ∙ picked.lim.given.1)
 
 enum_told : tie.Need-enum-told
 enum_told c = search rules
@@ -38,14 +38,14 @@ returns c =
     let picked = done.before.before.before.before in
     let asked = picked.before.before in
     let a = asked.before.before.before.before.args in
-    does-as (received a.self a.message.now a.store.now a.out.now (Known picked.lim.given.0.0) (sym picked.lim.given.1 ∙ asked.edition-of.ensures)) done.receive-in.ensures
+    does_as (received a.self a.message.now a.store.now a.out.now (Known picked.lim.given.0.0) (sym picked.lim.given.1 ∙ asked.edition-of.ensures)) done.receive-in.ensures
 
 returns-2 : tie.Need-returns-2
 returns-2 c =
     let told = c.before in
     let asked = told.before.before in
     let a = asked.before.before.before.before.args in
-    does-as (unknown a.self a.message.now a.store.now a.out.now ∙ received a.self a.message.now a.store.now a.out.now Unknown (sym told.enum_told.given.1 ∙ asked.edition-of.ensures)) (c.refuse.ensures.by a.store.now a.out.now)
+    does_as (unknown a.self a.message.now a.store.now a.out.now ∙ received a.self a.message.now a.store.now a.out.now Unknown (sym told.enum_told.given.1 ∙ asked.edition-of.ensures)) (c.refuse.ensures.by a.store.now a.out.now)
 
 pub receive-spec : {M : Type 1} → statement M
 receive-spec =

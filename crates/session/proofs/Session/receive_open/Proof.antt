@@ -3,9 +3,9 @@
 use Rattle.std.proofs.Common.{◌≡◌, ◌-◌, Bool, true, false, not, [], ◌∷◌, sym, ap, ◌∙◌, rules}
 use Rattle.message.specs.Header.{kind}
 use Rattle.session.specs.Sessions.{Closed, Open, remembering}
-use Rattle.session.specs.Rules.{test, repeats, firstFailed, typeTest, judged, inState}
+use Rattle.session.specs.Rules.{test, repeats, first_failed, type_test, judged, in_state}
 use Rattle.session.proofs.TestLaws.{header-holds}
-use Rattle.session.proofs.OutcomeLaws.{does-as, fault-judged, transaction-judged, open-long, open-short}
+use Rattle.session.proofs.OutcomeLaws.{does_as, fault_judged, transaction-judged, open_long, open_short}
 use Rattle.session.proofs.Session.receive_open.Statement.{statement}
 use Rattle.session.proofs.Session.receive_open.Tie as tie
 
@@ -14,8 +14,8 @@ past-header : (asked : tie.After-repeats) (b : Bool) → asked.repeats.result �
     let made = asked.before in
     let fault = made.before.before.before in
     let a = fault.before.before.before.before.before.args in
-    judged (firstFailed (test (not b) 10 Closed ∷ []) (typeTest (kind a.m.now) a.lim a.m.now a.s.now)) a.lim made.remembering.result a.m.now a.s.now a.out.now
-    ≡ inState Open a.lim a.self a.m.now a.s.now a.out.now
+    judged (first_failed (test (not b) 10 Closed ∷ []) (type_test (kind a.m.now) a.lim a.m.now a.s.now)) a.lim made.remembering.result a.m.now a.s.now a.out.now
+    ≡ in_state Open a.lim a.self a.m.now a.s.now a.out.now
 past-header asked b is =
     let made = asked.before in
     let got = made.before in
@@ -26,7 +26,7 @@ past-header asked b is =
     transaction-judged a.lim a.self a.m.now a.s.now a.out.now
     (header-holds a.self a.m.now fault.header-fault.result fault.header-fault.ensures right.if2.false) made.remembering.result
     (made.remembering.ensures ∙ ap (remembering a.self) got.get32-at.ensures) b (ap (repeats a.self) (sym got.get32-at.ensures) ∙ sym asked.repeats.ensures ∙ is)
-    ∙ open-long a.lim a.self a.m.now a.s.now a.out.now long.if1.false
+    ∙ open_long a.lim a.self a.m.now a.s.now a.out.now long.if1.false
 
 refuse-requires : tie.Need-refuse-requires
 refuse-requires c κs = search rules
@@ -34,7 +34,7 @@ refuse-requires c κs = search rules
 returns : tie.Need-returns
 returns c =
     let a = c.before.before.before.before.before.args in
-    does-as (open-short a.lim a.self a.m.now a.s.now a.out.now c.before.if1.true) (c.refuse.ensures.by a.s.now a.out.now)
+    does_as (open_short a.lim a.self a.m.now a.s.now a.out.now c.before.if1.true) (c.refuse.ensures.by a.s.now a.out.now)
 
 header-fault-requires : tie.Need-header-fault-requires
 header-fault-requires c κs = search rules
@@ -52,7 +52,7 @@ returns-2 c =
     let fault = test.before in
     let long = fault.before in
     let a = long.before.before.before.before.args in
-    does-as (fault-judged a.lim a.self a.m.now a.s.now a.out.now fault.header-fault.result fault.header-fault.ensures test.if2.true ∙ open-long a.lim a.self a.m.now a.s.now a.out.now long.if1.false)
+    does_as (fault_judged a.lim a.self a.m.now a.s.now a.out.now fault.header-fault.result fault.header-fault.ensures test.if2.true ∙ open_long a.lim a.self a.m.now a.s.now a.out.now long.if1.false)
     (called.drop-with.ensures.by a.s.now)
 
 get32-at-requires : tie.Need-get32-at-requires
@@ -71,14 +71,14 @@ same-length-2 : tie.Need-same-length-2
 same-length-2 c = search rules
 
 returns-3 : tie.Need-returns-3
-unfolding firstFailed
+unfolding first_failed
 returns-3 c =
     let called = c.before.before in
     let test = called.before.before in
     let asked = test.before in
     let fault = asked.before.before.before.before in
     let a = fault.before.before.before.before.before.args in
-    does-as (past-header asked true test.if3.true) (called.drop-with2.ensures.by a.s.now)
+    does_as (past-header asked true test.if3.true) (called.drop-with2.ensures.by a.s.now)
 
 receive-typed-requires : tie.Need-receive-typed-requires
 receive-typed-requires c κs = search rules
@@ -90,11 +90,11 @@ same-length-4 : tie.Need-same-length-4
 same-length-4 c = search rules
 
 returns-4 : tie.Need-returns-4
-unfolding firstFailed
+unfolding first_failed
 returns-4 c =
     let done = c.before.before.before.before in
     let test = done.before.before.before in
-    does-as (past-header test.before false test.if3.false) done.receive-typed.ensures
+    does_as (past-header test.before false test.if3.false) done.receive-typed.ensures
 
 pub receive-open-spec : {M : Type 1} → statement M
 receive-open-spec =

@@ -3,18 +3,18 @@
 use Rattle.std.proofs.Common.{◌≡◌, ◌-◌, sym, ap, ◌∙◌, rules}
 use Rattle.message.specs.declared.Kind.{Kind}
 use Rattle.message.specs.Header.{kind}
-use Rattle.session.specs.Rules.{judged, typeTest}
-use Rattle.session.proofs.OutcomeLaws.{does-as}
+use Rattle.session.specs.Rules.{judged, type_test}
+use Rattle.session.proofs.OutcomeLaws.{does_as}
 use Rattle.session.proofs.Session.receive_typed.Statement.{statement}
 use Rattle.session.proofs.Session.receive_typed.Tie as tie
 
 -- a message is judged by its type
-by-type : (p : tie.After-kind-of) (k : Kind) → p.kind-of.result ≡ k → let a = p.before.before.before.before.before.args in
-    judged (typeTest k a.lim a.m.now a.s.now) a.lim a.self a.m.now a.s.now a.out.now
-    ≡ judged (typeTest (kind a.m.now) a.lim a.m.now a.s.now) a.lim a.self a.m.now a.s.now a.out.now
+by-type : (p : tie.After-kind-of) (k : Kind) → p.kind_of_lem.result ≡ k → let a = p.before.before.before.before.before.args in
+    judged (type_test k a.lim a.m.now a.s.now) a.lim a.self a.m.now a.s.now a.out.now
+    ≡ judged (type_test (kind a.m.now) a.lim a.m.now a.s.now) a.lim a.self a.m.now a.s.now a.out.now
 by-type p k is =
     let a = p.before.before.before.before.before.args in
-    ap (λ (k : Kind). judged (typeTest k a.lim a.m.now a.s.now) a.lim a.self a.m.now a.s.now a.out.now) (sym (sym p.kind-of.ensures ∙ is))
+    ap (λ (k : Kind). judged (type_test k a.lim a.m.now a.s.now) a.lim a.self a.m.now a.s.now a.out.now) (sym (sym p.kind_of_lem.ensures ∙ is))
 
 shared-slice-read-kind-of : tie.Need-shared-slice-read-kind-of
 shared-slice-read-kind-of c = search rules
@@ -50,7 +50,7 @@ returns : tie.Need-returns
 returns c =
     let done = c.before.before.before.before in
     let asks = done.before.before.before.before in
-    does-as (by-type asks.before.before _ asks.task.given.1) done.perform.ensures
+    does_as (by-type asks.before.before _ asks.task.given.1) done.perform.ensures
 
 same-length-3 : tie.Need-same-length-3
 same-length-3 c = search rules
@@ -61,7 +61,7 @@ returns-2 c =
     let told = called.before.before in
     let typed = told.before.before in
     let a = typed.before.before.before.before.before.args in
-    does-as (by-type typed _ told.enum_told.given.1) (called.keep-with.ensures.by a.s.now)
+    does_as (by-type typed _ told.enum_told.given.1) (called.keep-with.ensures.by a.s.now)
 
 same-length-4 : tie.Need-same-length-4
 same-length-4 c = search rules
@@ -72,7 +72,7 @@ returns-3 c =
     let told = called.before.before in
     let typed = told.before.before in
     let a = typed.before.before.before.before.before.args in
-    does-as (by-type typed _ told.enum-told2.given.1) (called.keep-with2.ensures.by a.s.now)
+    does_as (by-type typed _ told.enum-told2.given.1) (called.keep-with2.ensures.by a.s.now)
 
 pub receive-typed-spec : {M : Type 1} → statement M
 receive-typed-spec =

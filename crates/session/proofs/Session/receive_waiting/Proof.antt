@@ -2,7 +2,7 @@
 -- Assumes nothing.
 use Rattle.std.proofs.Common.{◌-◌, sym, ap, ◌∙◌, rules}
 use Rattle.session.specs.Sessions.{opening}
-use Rattle.session.proofs.SessionLaws.{waits-opened, waits-refused}
+use Rattle.session.proofs.SessionLaws.{waits_opened, waits_refused}
 use Rattle.session.proofs.Session.receive_waiting.Statement.{statement}
 use Rattle.session.proofs.Session.receive_waiting.Tie as tie
 
@@ -20,7 +20,7 @@ returns c =
     let got = c.before in
     let asked = got.before.before in
     let a = asked.before.before.args in
-    waits-opened a.self a.m.now c.opened.result (sym asked.is-opening.ensures ∙ got.before.if1.true) (c.opened.ensures ∙ ap (opening a.self) got.get16-at.ensures)
+    waits_opened a.self a.m.now c.opened.result (sym asked.is-opening.ensures ∙ got.before.if1.true) (c.opened.ensures ∙ ap (opening a.self) got.get16-at.ensures)
 
 closed-requires : tie.Need-closed-requires
 closed-requires c κs = search rules
@@ -29,7 +29,7 @@ returns-2 : tie.Need-returns-2
 returns-2 c =
     let asked = c.before.before in
     let a = asked.before.before.args in
-    waits-refused a.self a.m.now c.closed.result (sym asked.is-opening.ensures ∙ c.before.if1.false) c.closed.ensures
+    waits_refused a.self a.m.now c.closed.result (sym asked.is-opening.ensures ∙ c.before.if1.false) c.closed.ensures
 
 pub receive-waiting-spec : {M : Type 1} → statement M
 receive-waiting-spec =

@@ -1,7 +1,7 @@
 -- `session::Session::work` meets its contract.
 -- Assumes nothing.
 use Rattle.std.proofs.Common.{ℕ, ◌-◌, ap, ◌∙◌, arith, rules}
-use Rattle.message.specs.Body.{fieldsFrom}
+use Rattle.message.specs.Body.{fields_from}
 use Rattle.message.proofs.BodyLaws.{listed}
 use Rattle.session.proofs.OutcomeLaws.{worked}
 use Rattle.session.proofs.Session.work.Statement.{statement}
@@ -24,7 +24,7 @@ work-requires c κs =
       start.requires.0,
       (
         start.requires.1,
-        (ap (λ (x : ℕ). fieldsFrom a.command a.m.now 22 x) got.get16-at.ensures ∙ l.fields, omega (arith, got.get16-at.ensures, l.few, start.requires.4)),
+        (ap (λ (x : ℕ). fields_from a.command a.m.now 22 x) got.get16-at.ensures ∙ l.fields, omega (arith, got.get16-at.ensures, l.few, start.requires.4)),
       ),
     )
 

@@ -1,8 +1,8 @@
 -- `session::Session::work_if_sound` meets its contract.
 -- Assumes nothing.
 use Rattle.std.proofs.Common.{◌-◌, rules}
-use Rattle.octets.proofs.BoolLaws.{test-holds, test-fails}
-use Rattle.session.proofs.OutcomeLaws.{does-as, work-unsound, work-sound}
+use Rattle.octets.proofs.BoolLaws.{test-holds, test_fails}
+use Rattle.session.proofs.OutcomeLaws.{does_as, work-unsound, work-sound}
 use Rattle.session.proofs.Session.work_if_sound.Statement.{statement}
 use Rattle.session.proofs.Session.work_if_sound.Tie as tie
 
@@ -24,7 +24,7 @@ returns c =
     let test = called.before.before in
     let asked = test.before in
     let a = asked.before.before.before.before.before.args in
-    does-as (work-unsound a.lim a.command a.self a.m.now a.s.now a.out.now (test-fails asked.is-sound.result asked.is-sound.ensures test.if1.true))
+    does_as (work-unsound a.lim a.command a.self a.m.now a.s.now a.out.now (test_fails asked.is_sound_lem.result asked.is_sound_lem.ensures test.if1.true))
     (called.keep-with.ensures.by a.s.now)
 
 work-requires : tie.Need-work-requires
@@ -32,7 +32,7 @@ work-requires c κs =
     let test = c.before.before in
     let asked = test.before in
     let start = asked.before.before.before.before.before in
-    (start.requires.0, test-holds asked.is-sound.result asked.is-sound.ensures test.if1.false, start.requires.1, start.requires.2, start.requires.3)
+    (start.requires.0, test-holds asked.is_sound_lem.result asked.is_sound_lem.ensures test.if1.false, start.requires.1, start.requires.2, start.requires.3)
 
 same-length-3 : tie.Need-same-length-3
 same-length-3 c = search rules
@@ -46,7 +46,7 @@ returns-2 c =
     let test = done.before.before.before in
     let asked = test.before in
     let a = asked.before.before.before.before.before.args in
-    does-as (work-sound a.lim a.command a.self a.m.now a.s.now a.out.now (test-holds asked.is-sound.result asked.is-sound.ensures test.if1.false))
+    does_as (work-sound a.lim a.command a.self a.m.now a.s.now a.out.now (test-holds asked.is_sound_lem.result asked.is_sound_lem.ensures test.if1.false))
     done.work.ensures
 
 pub work-if-sound-spec : {M : Type 1} → statement M

@@ -1,9 +1,9 @@
 -- `session::header::header_fault` meets its contract.
 -- Assumes nothing.
 use Rattle.std.proofs.Common.{◌≡◌, ◌-◌, true, sym, ◌∙◌, rules}
-use Rattle.octets.proofs.BoolLaws.{test-holds, test-fails}
-use Rattle.session.specs.Rules.{lengthOk}
-use Rattle.session.proofs.HeaderLaws.{fault-length, fault-version, fault-receiver, fault-sender, fault-sequence, fault-none}
+use Rattle.octets.proofs.BoolLaws.{test-holds, test_fails}
+use Rattle.session.specs.Rules.{length_ok}
+use Rattle.session.proofs.HeaderLaws.{fault_length, fault_version, fault_receiver, fault_sender, fault_sequence, fault_none}
 use Rattle.session.proofs.header.header_fault.Statement.{statement}
 use Rattle.session.proofs.header.header_fault.Tie as tie
 
@@ -14,7 +14,7 @@ returns : tie.Need-returns
 returns c =
     let len = c.before in
     let a = len.before.before.args in
-    fault-length a.e a.m.now (test-fails len.length-ok.result len.length-ok.ensures c.if1.true)
+    fault_length a.e a.m.now (test_fails len.length_ok_lem.result len.length_ok_lem.ensures c.if1.true)
 
 shared-slice-read-if2 : tie.Need-shared-slice-read-if2
 shared-slice-read-if2 c = search rules
@@ -24,8 +24,8 @@ returns-2 c =
     let ver = c in
     let len = ver.before.before.before in
     let a = len.before.before.args in
-    let long : lengthOk a.m.now ≡ true = test-holds len.length-ok.result len.length-ok.ensures ver.before.before.if1.false in
-    fault-version a.e a.m.now long c.if2.true
+    let long : length_ok a.m.now ≡ true = test-holds len.length_ok_lem.result len.length_ok_lem.ensures ver.before.before.if1.false in
+    fault_version a.e a.m.now long c.if2.true
 
 get32-at-requires : tie.Need-get32-at-requires
 get32-at-requires c κs = search rules
@@ -36,8 +36,8 @@ returns-3 c =
     let ver = to.before in
     let len = ver.before.before.before in
     let a = len.before.before.args in
-    let long : lengthOk a.m.now ≡ true = test-holds len.length-ok.result len.length-ok.ensures ver.before.before.if1.false in
-    fault-receiver a.e a.m.now long ver.if2.false (λ p. c.if3.true (to.get32-at.ensures ∙ p))
+    let long : length_ok a.m.now ≡ true = test-holds len.length_ok_lem.result len.length_ok_lem.ensures ver.before.before.if1.false in
+    fault_receiver a.e a.m.now long ver.if2.false (λ p. c.if3.true (to.get32-at.ensures ∙ p))
 
 get32-at-requires-2 : tie.Need-get32-at-requires-2
 get32-at-requires-2 c κs = search rules
@@ -49,8 +49,8 @@ returns-4 c =
     let ver = to.before in
     let len = ver.before.before.before in
     let a = len.before.before.args in
-    let long : lengthOk a.m.now ≡ true = test-holds len.length-ok.result len.length-ok.ensures ver.before.before.if1.false in
-    fault-sender a.e a.m.now long ver.if2.false (sym to.get32-at.ensures ∙ from.before.if3.false) (λ p. c.if4.true (from.get32-at2.ensures ∙ p))
+    let long : length_ok a.m.now ≡ true = test-holds len.length_ok_lem.result len.length_ok_lem.ensures ver.before.before.if1.false in
+    fault_sender a.e a.m.now long ver.if2.false (sym to.get32-at.ensures ∙ from.before.if3.false) (λ p. c.if4.true (from.get32-at2.ensures ∙ p))
 
 get16-at-requires : tie.Need-get16-at-requires
 get16-at-requires c κs = search rules
@@ -63,8 +63,8 @@ returns-5 c =
     let ver = to.before in
     let len = ver.before.before.before in
     let a = len.before.before.args in
-    let long : lengthOk a.m.now ≡ true = test-holds len.length-ok.result len.length-ok.ensures ver.before.before.if1.false in
-    fault-sequence a.e a.m.now long ver.if2.false (sym to.get32-at.ensures ∙ from.before.if3.false) (sym from.get32-at2.ensures ∙ seq.before.if4.false)
+    let long : length_ok a.m.now ≡ true = test-holds len.length_ok_lem.result len.length_ok_lem.ensures ver.before.before.if1.false in
+    fault_sequence a.e a.m.now long ver.if2.false (sym to.get32-at.ensures ∙ from.before.if3.false) (sym from.get32-at2.ensures ∙ seq.before.if4.false)
     (λ p. c.if5.true (seq.get16-at.ensures ∙ p))
 
 returns-6 : tie.Need-returns-6
@@ -75,8 +75,8 @@ returns-6 c =
     let ver = to.before in
     let len = ver.before.before.before in
     let a = len.before.before.args in
-    let long : lengthOk a.m.now ≡ true = test-holds len.length-ok.result len.length-ok.ensures ver.before.before.if1.false in
-    fault-none a.e a.m.now long ver.if2.false (sym to.get32-at.ensures ∙ from.before.if3.false) (sym from.get32-at2.ensures ∙ seq.before.if4.false)
+    let long : length_ok a.m.now ≡ true = test-holds len.length_ok_lem.result len.length_ok_lem.ensures ver.before.before.if1.false in
+    fault_none a.e a.m.now long ver.if2.false (sym to.get32-at.ensures ∙ from.before.if3.false) (sym from.get32-at2.ensures ∙ seq.before.if4.false)
     (sym seq.get16-at.ensures ∙ c.if5.false)
 
 pub header-fault-spec : {M : Type 1} → statement M

@@ -1,7 +1,7 @@
 -- `session::header::is_init` meets its contract.
 -- Assumes nothing.
 use Rattle.std.proofs.Common.{◌-◌, sym, ap, ◌∙◌, rules}
-use Rattle.session.specs.Rules.{isInit}
+use Rattle.session.specs.Rules.{is_init}
 use Rattle.session.proofs.header.is_init.Statement.{statement}
 use Rattle.session.proofs.header.is_init.Tie as tie
 
@@ -23,17 +23,17 @@ enum-told-3 c = search rules
 returns : tie.Need-returns
 returns c =
     let asked = c.before.before in
-    sym (ap isInit (sym asked.kind-of.ensures ∙ c.enum_told.given.1))
+    sym (ap is_init (sym asked.kind_of_lem.ensures ∙ c.enum_told.given.1))
 
 returns-2 : tie.Need-returns-2
 returns-2 c =
     let asked = c.before.before in
-    sym (ap isInit (sym asked.kind-of.ensures ∙ c.enum-told2.given.1))
+    sym (ap is_init (sym asked.kind_of_lem.ensures ∙ c.enum-told2.given.1))
 
 returns-3 : tie.Need-returns-3
 returns-3 c =
     let asked = c.before.before in
-    sym (ap isInit (sym asked.kind-of.ensures ∙ c.enum-told3.given.1))
+    sym (ap is_init (sym asked.kind_of_lem.ensures ∙ c.enum-told3.given.1))
 
 pub is-init-spec : {M : Type 1} → statement M
 is-init-spec =

@@ -1,9 +1,9 @@
 -- `session::header::is_opening` meets its contract.
 -- Assumes nothing.
 use Rattle.std.proofs.Common.{◌≡◌, ◌-◌, true, sym, ◌∙◌, rules}
-use Rattle.octets.proofs.BoolLaws.{test-holds, test-fails}
+use Rattle.octets.proofs.BoolLaws.{test-holds, test_fails}
 use Rattle.message.specs.Header.{kind}
-use Rattle.session.specs.Rules.{lengthOk, isInit}
+use Rattle.session.specs.Rules.{length_ok, is_init}
 use Rattle.session.proofs.HeaderLaws.{no-init, init-length, init-version, init-receiver, init-sender, init-body}
 use Rattle.session.proofs.header.is_opening.Statement.{statement}
 use Rattle.session.proofs.header.is_opening.Tie as tie
@@ -15,7 +15,7 @@ returns : tie.Need-returns
 returns c =
     let init = c.before in
     let a = init.before.before.args in
-    no-init a.e a.m.now (test-fails init.is-init.result init.is-init.ensures c.if1.taken)
+    no-init a.e a.m.now (test_fails init.is-init.result init.is-init.ensures c.if1.taken)
 
 length-ok-requires : tie.Need-length-ok-requires
 length-ok-requires c κs = search rules
@@ -25,8 +25,8 @@ returns-2 c =
     let len = c.before in
     let init = len.before.before in
     let a = init.before.before.args in
-    let is : isInit (kind a.m.now) ≡ true = test-holds init.is-init.result init.is-init.ensures len.before.if1.left in
-    init-length a.e a.m.now is (test-fails len.length-ok.result len.length-ok.ensures c.if2.taken)
+    let is : is_init (kind a.m.now) ≡ true = test-holds init.is-init.result init.is-init.ensures len.before.if1.left in
+    init-length a.e a.m.now is (test_fails len.length_ok_lem.result len.length_ok_lem.ensures c.if2.taken)
 
 shared-slice-read-if3 : tie.Need-shared-slice-read-if3
 shared-slice-read-if3 c = search rules
@@ -37,8 +37,8 @@ returns-3 c =
     let len = ver.before.before.before in
     let init = len.before.before in
     let a = init.before.before.args in
-    let is : isInit (kind a.m.now) ≡ true = test-holds init.is-init.result init.is-init.ensures len.before.if1.left in
-    let long : lengthOk a.m.now ≡ true = test-holds len.length-ok.result len.length-ok.ensures ver.before.before.if2.left in
+    let is : is_init (kind a.m.now) ≡ true = test-holds init.is-init.result init.is-init.ensures len.before.if1.left in
+    let long : length_ok a.m.now ≡ true = test-holds len.length_ok_lem.result len.length_ok_lem.ensures ver.before.before.if2.left in
     init-version a.e a.m.now is long ver.if3.taken
 
 get32-at-requires : tie.Need-get32-at-requires
@@ -51,8 +51,8 @@ returns-4 c =
     let len = ver.before.before.before in
     let init = len.before.before in
     let a = init.before.before.args in
-    let is : isInit (kind a.m.now) ≡ true = test-holds init.is-init.result init.is-init.ensures len.before.if1.left in
-    let long : lengthOk a.m.now ≡ true = test-holds len.length-ok.result len.length-ok.ensures ver.before.before.if2.left in
+    let is : is_init (kind a.m.now) ≡ true = test-holds init.is-init.result init.is-init.ensures len.before.if1.left in
+    let long : length_ok a.m.now ≡ true = test-holds len.length_ok_lem.result len.length_ok_lem.ensures ver.before.before.if2.left in
     init-receiver a.e a.m.now is long ver.if3.left (λ p. c.if4.taken (to.get32-at.ensures ∙ p))
 
 get32-at-requires-2 : tie.Need-get32-at-requires-2
@@ -66,8 +66,8 @@ returns-5 c =
     let len = ver.before.before.before in
     let init = len.before.before in
     let a = init.before.before.args in
-    let is : isInit (kind a.m.now) ≡ true = test-holds init.is-init.result init.is-init.ensures len.before.if1.left in
-    let long : lengthOk a.m.now ≡ true = test-holds len.length-ok.result len.length-ok.ensures ver.before.before.if2.left in
+    let is : is_init (kind a.m.now) ≡ true = test-holds init.is-init.result init.is-init.ensures len.before.if1.left in
+    let long : length_ok a.m.now ≡ true = test-holds len.length_ok_lem.result len.length_ok_lem.ensures ver.before.before.if2.left in
     init-sender a.e a.m.now is long ver.if3.left (sym to.get32-at.ensures ∙ from.before.if4.left) (λ p. c.if5.taken (from.get32-at2.ensures ∙ p))
 
 init-ok-requires : tie.Need-init-ok-requires
@@ -81,8 +81,8 @@ returns-6 c =
     let len = ver.before.before.before in
     let init = len.before.before in
     let a = init.before.before.args in
-    let is : isInit (kind a.m.now) ≡ true = test-holds init.is-init.result init.is-init.ensures len.before.if1.left in
-    let long : lengthOk a.m.now ≡ true = test-holds len.length-ok.result len.length-ok.ensures ver.before.before.if2.left in
+    let is : is_init (kind a.m.now) ≡ true = test-holds init.is-init.result init.is-init.ensures len.before.if1.left in
+    let long : length_ok a.m.now ≡ true = test-holds len.length_ok_lem.result len.length_ok_lem.ensures ver.before.before.if2.left in
     c.init-ok.ensures
     ∙ init-body a.e a.m.now is long ver.if3.left (sym to.get32-at.ensures ∙ from.before.if4.left) (sym from.get32-at2.ensures ∙ c.before.if5.left)
 

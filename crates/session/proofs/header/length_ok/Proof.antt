@@ -1,7 +1,7 @@
 -- `session::header::length_ok` meets its contract.
 -- Assumes nothing.
 use Rattle.std.proofs.Common.{◌-◌, sym, ◌∙◌, rules}
-use Rattle.session.proofs.HeaderLaws.{length-wrong, length-decides}
+use Rattle.session.proofs.HeaderLaws.{length_wrong, length-decides}
 use Rattle.session.proofs.header.length_ok.Statement.{statement}
 use Rattle.session.proofs.header.length_ok.Tie as tie
 
@@ -14,7 +14,7 @@ wide-requires c κs = search rules
 returns : tie.Need-returns
 returns c =
     let m = c.before.before.before.before.args.m.now in
-    sym (length-wrong m (λ p. c.if1.true (c.before.wide.ensures ∙ c.before.before.get32-at.ensures ∙ p)))
+    sym (length_wrong m (λ p. c.if1.true (c.before.wide.ensures ∙ c.before.before.get32-at.ensures ∙ p)))
 
 returns-2 : tie.Need-returns-2
 returns-2 c =

@@ -4,8 +4,8 @@ use mathlib.Core.Path.{sym, ap, ◌∙◌}
 use Prim.Native.Nat.{ℕ}
 use lib.Dec.{eqb}
 use Rattle.session.specs.declared.Received.{Received}
-use Rattle.session.specs.Rules.{receivedAs}
-use Rattle.session_buffer.specs.SessionBuffer.{writesSession}
+use Rattle.session.specs.Rules.{received_as}
+use Rattle.session_buffer.specs.SessionBuffer.{writes_session}
 use borrow.Author.Rules.{rules}
 use Rattle.session_buffer.proofs.buffers.is_written.Statement.{statement}
 use Rattle.session_buffer.proofs.buffers.is_written.Tie as tie
@@ -37,7 +37,7 @@ returns-3 c = search rules
 returns-4 : tie.Need-returns-4
 returns-4 c =
     let told = c.before.before in
-    ap (λ (n : ℕ). eqb n 5) c.house-number.ensures ∙ sym (ap (λ (r : Received). writesSession (receivedAs r)) told.answer2.given.1)
+    ap (λ (n : ℕ). eqb n 5) c.house-number.ensures ∙ sym (ap (λ (r : Received). writes_session (received_as r)) told.answer2.given.1)
 
 pub is-written-spec : {M : Type 1} → statement M
 is-written-spec =

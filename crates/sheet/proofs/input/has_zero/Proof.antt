@@ -4,13 +4,13 @@ use native.Mathlib.Omega.{arith}
 use mathlib.Core.Path.{◌≡◌, refl, sym, ◌∙◌}
 use Prim.Native.Nat.{◌-◌, ◌≤◌}
 use lib.ListN.{length, drop}
-use Rattle.sheet.specs.Input.{hasZero}
+use Rattle.sheet.specs.Input.{has_zero}
 use Rattle.sheet.proofs.InputLaws.{zero-here, zero_turn, zero-end}
 use Rattle.sheet.proofs.input.has_zero.Statement.{statement}
 use Rattle.sheet.proofs.input.has_zero.Tie as tie
 
 abbrev invariant-loop : tie.invariant-loop
-invariant-loop line i₀ i = (i ≤ length line) × (hasZero line ≡ hasZero (drop i line))
+invariant-loop line i₀ i = (i ≤ length line) × (has_zero line ≡ has_zero (drop i line))
 
 abbrev decreases-loop : tie.decreases-loop
 decreases-loop line i₀ i = length line - i

@@ -4,14 +4,14 @@ use native.Mathlib.Omega.{arith}
 use mathlib.Core.Path.{◌≡◌, subst}
 use Prim.Native.Nat.{ℕ, ◌*◌, ◌<◌, ◌^◌}
 use lib.ListN.{length}
-use Rattle.octets.proofs.BoolLaws.{test-holds, test-fails}
-use Rattle.sheet.proofs.InputLaws.{moment-length, moment-digits, moment-read}
+use Rattle.octets.proofs.BoolLaws.{test-holds, test_fails}
+use Rattle.sheet.proofs.InputLaws.{moment_length, moment_digits, moment_read}
 use borrow.Author.Rules.{rules}
 use Rattle.sheet.proofs.input.read_moment.Statement.{statement}
 use Rattle.sheet.proofs.input.read_moment.Tie as tie
 
 returns : tie.Need-returns
-returns c = moment-length c.before.before.args.line.now c.if1.true
+returns c = moment_length c.before.before.args.line.now c.if1.true
 
 are-digits-requires : tie.Need-are-digits-requires
 are-digits-requires c κs = search rules
@@ -21,7 +21,7 @@ returns-2 c =
     let test = c.before in
     let if1 = test.before in
     let start = if1.before.before in
-    moment-digits start.args.line.now if1.if1.false (test-fails test.are-digits.result test.are-digits.ensures c.if2.true)
+    moment_digits start.args.line.now if1.if1.false (test_fails test.are-digits.result test.are-digits.ensures c.if2.true)
 
 number-requires : tie.Need-number-requires
 number-requires c κs =
@@ -43,7 +43,7 @@ returns-3 c =
     let test = if2.before in
     let if1 = test.before in
     let start = if1.before.before in
-    moment-read start.args.line.now c.number.result if1.if1.false (test-holds test.are-digits.result test.are-digits.ensures if2.if2.false) c.number.ensures.is
+    moment_read start.args.line.now c.number.result if1.if1.false (test-holds test.are-digits.result test.are-digits.ensures if2.if2.false) c.number.ensures.is
 
 pub read-moment-spec : {M : Type 1} → statement M
 read-moment-spec =

@@ -1,6 +1,6 @@
 -- `sheet::input::take_line` meets its contract.
 -- Assumes nothing.
-use Rattle.sheet.proofs.InputLaws.{line-ended, line-open}
+use Rattle.sheet.proofs.InputLaws.{line_ended, line_open}
 use borrow.Author.Rules.{rules}
 use Rattle.sheet.proofs.input.take_line.Statement.{statement}
 use Rattle.sheet.proofs.input.take_line.Tie as tie
@@ -36,7 +36,7 @@ returns c =
     let first = least.before in
     let start = first.before.before.before in
     let a = start.args in
-    line-ended a.line.now a.filled a.chunk.now a.at first.first.result least.least.result copy.copy.new.0 start.requires.0 first.first.ensures least.least.ensures copy.copy.ensures c.if1.true
+    line_ended a.line.now a.filled a.chunk.now a.at first.first.result least.least.result copy.copy.new.0 start.requires.0 first.first.ensures least.least.ensures copy.copy.ensures c.if1.true
 
 add-t9 : tie.Need-overflow-add-t9
 add-t9 c = search rules
@@ -51,7 +51,7 @@ returns-2 c =
     let first = least.before in
     let start = first.before.before.before in
     let a = start.args in
-    line-open a.line.now a.filled a.chunk.now a.at first.first.result least.least.result copy.copy.new.0 start.requires.0 first.first.ensures least.least.ensures copy.copy.ensures c.if1.false
+    line_open a.line.now a.filled a.chunk.now a.at first.first.result least.least.result copy.copy.new.0 start.requires.0 first.first.ensures least.least.ensures copy.copy.ensures c.if1.false
 
 pub take-line-spec : {M : Type 1} → statement M
 take-line-spec =

@@ -4,7 +4,7 @@ use native.Mathlib.Omega.{arith}
 use mathlib.Core.Path.{◌∙◌}
 use Prim.Native.Nat.{◌<◌, ◌^◌}
 use lib.ListN.{take, length-set}
-use Rattle.sheet.proofs.RowLaws.{places-are, length-field, field-written}
+use Rattle.sheet.proofs.RowLaws.{places_are, length-field, field-written}
 use borrow.Author.Rules.{rules}
 use Rattle.sheet.proofs.row.put_field.Statement.{statement}
 use Rattle.sheet.proofs.row.put_field.Tie as tie
@@ -34,7 +34,7 @@ copy-requires : tie.Need-copy-requires
 copy-requires c κs =
     let decimal = c.before.before in
     let start = decimal.before.before.before in (
-      simp length-set (omega (arith, start.requires, length-field start.args.n, places-are 9 start.args.n decimal.decimal.result (small start) decimal.decimal.ensures.1.0)),
+      simp length-set (omega (arith, start.requires, length-field start.args.n, places_are 9 start.args.n decimal.decimal.result (small start) decimal.decimal.ensures.1.0)),
       omega (arith, decimal.decimal.ensures.0.1),
     )
 
@@ -45,7 +45,7 @@ add-result-2 : tie.Need-overflow-add-result-2
 add-result-2 c =
     let decimal = c.before.before.before.before.before in
     let start = decimal.before.before.before in
-    omega (arith, start.requires, length-field start.args.n, places-are 9 start.args.n decimal.decimal.result (small start) decimal.decimal.ensures.1.0)
+    omega (arith, start.requires, length-field start.args.n, places_are 9 start.args.n decimal.decimal.result (small start) decimal.decimal.ensures.1.0)
 
 same_length : tie.Need-same-length
 same_length c =

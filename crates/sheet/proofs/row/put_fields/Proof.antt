@@ -6,7 +6,7 @@ use Prim.Native.Nat.{◌+◌, ◌-◌, ◌≤◌}
 use lib.ListN.{length, drop}
 use Rattle.octets.specs.Bytes.{splice}
 use Rattle.sheet.specs.Row.{fields}
-use Rattle.sheet.proofs.RowLaws.{fields-turn, fields-room, fields-end}
+use Rattle.sheet.proofs.RowLaws.{fields_turn, fields-room, fields-end}
 use Rattle.sheet.proofs.row.put_fields.Statement.{statement}
 use Rattle.sheet.proofs.row.put_fields.Tie as tie
 
@@ -45,7 +45,7 @@ loop-again c =
     let start = loop.before.before.before in
     let a = start.args in
     let v = loop.loop.invariant in
-    let t = fields-turn loop.loop.out put.put-field.new.0 a.numbers.now loop.loop.«end» put.put-field.result loop.loop.i (omega arith) (omega (arith, v.3, v.1, start.requires)) put.put-field.ensures.0 put.put-field.ensures.1 in
+    let t = fields_turn loop.loop.out put.put-field.new.0 a.numbers.now loop.loop.«end» put.put-field.result loop.loop.i (omega arith) (omega (arith, v.3, v.1, start.requires)) put.put-field.ensures.0 put.put-field.ensures.1 in
     (omega arith, put.put-field.auto.0 ∙ v.1, v.2 ∙ t.0, t.1 ∙ v.3)
 
 same_length : tie.Need-same-length invariant-loop decreases-loop

@@ -5,7 +5,7 @@ use mathlib.Core.Path.{refl, ◌∙◌}
 use Prim.Native.Nat.{◌≤◌}
 use lib.ListN.{length}
 use lib.ListN.{length-set}
-use Rattle.sheet.specs.Row.{fields, numbersOf}
+use Rattle.sheet.specs.Row.{fields, numbers_of}
 use Rattle.sheet.proofs.RowLaws.{fields-few, row_written}
 use borrow.Author.Rules.{rules}
 use Rattle.sheet.proofs.row.put_row.Statement.{statement}
@@ -22,7 +22,7 @@ put-fields-requires c κs =
     let copy = c.before.before.before.before in
     let start = copy.before.before.before.before in
     let a = start.args in
-    let few : length (fields (numbersOf a.c)) ≤ 66 = fields-few (numbersOf a.c) in
+    let few : length (fields (numbers_of a.c)) ≤ 66 = fields-few (numbers_of a.c) in
     omega (arith, few, start.requires, copy.copy.auto.0)
 
 slice-write-out : tie.Need-slice-write-out
@@ -31,7 +31,7 @@ slice-write-out c =
     let copy = put.before.before.before.before.before in
     let start = copy.before.before.before.before in
     let a = start.args in
-    let few : length (fields (numbersOf a.c)) ≤ 66 = fields-few (numbersOf a.c) in
+    let few : length (fields (numbers_of a.c)) ≤ 66 = fields-few (numbers_of a.c) in
     omega (arith, few, start.requires, copy.copy.auto.0, put.put-fields.auto.0, put.put-fields.ensures.1)
 
 add-result : tie.Need-overflow-add-result
@@ -40,7 +40,7 @@ add-result c =
     let copy = put.before.before.before.before.before in
     let start = copy.before.before.before.before in
     let a = start.args in
-    let few : length (fields (numbersOf a.c)) ≤ 66 = fields-few (numbersOf a.c) in
+    let few : length (fields (numbers_of a.c)) ≤ 66 = fields-few (numbers_of a.c) in
     omega (arith, few, start.requires, put.put-fields.ensures.1, start.well-formed)
 
 same_length : tie.Need-same-length
@@ -56,7 +56,7 @@ returns c =
     let copy = put.before.before.before.before.before in
     let start = copy.before.before.before.before in
     let a = start.args in
-    row_written a.out.now copy.copy.new.0 put.put-fields.new.0 _ a.name.now (numbersOf a.c) a.c (length a.name.now) put.put-fields.result refl refl start.requires copy.copy.ensures put.put-fields.ensures.0 put.put-fields.ensures.1 refl
+    row_written a.out.now copy.copy.new.0 put.put-fields.new.0 _ a.name.now (numbers_of a.c) a.c (length a.name.now) put.put-fields.result refl refl start.requires copy.copy.ensures put.put-fields.ensures.0 put.put-fields.ensures.1 refl
 
 pub put-row-spec : {M : Type 1} → statement M
 put-row-spec =

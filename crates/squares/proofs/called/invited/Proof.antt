@@ -4,17 +4,17 @@ use mathlib.Core.Path.{◌≡◌, sym, ◌∙◌}
 use mathlib.Core.Bool.{true}
 use borrow.Author.Rules.{rules}
 use Rattle.units.specs.declared.Fault.TheVariants.{Fine}
-use Rattle.units.specs.Units.{au1Fault}
-use Rattle.table.proofs.SideLaws.{typed-fine, indication-faulty}
+use Rattle.units.specs.Units.{au1_fault}
+use Rattle.table.proofs.SideLaws.{typed-fine, indication_faulty}
 use Rattle.squares.proofs.called.invited.Statement.{statement}
 use Rattle.squares.proofs.called.invited.Tie as tie
 
 -- neither the application type nor the AU1 is wrong
-fine : (k : tie.After-enum-told) → let a = k.before.before.before.before.before.before.args in (a.acceptable ≡ true) × (au1Fault a.unit.now ≡ Fine)
+fine : (k : tie.After-enum-told) → let a = k.before.before.before.before.before.before.args in (a.acceptable ≡ true) × (au1_fault a.unit.now ≡ Fine)
 fine k =
     let judged = k.before.before in
     let a = judged.before.before.before.before.args in
-    typed-fine a.acceptable (au1Fault a.unit.now) (sym judged.typed-fault.ensures ∙ k.enum_told.given.1)
+    typed-fine a.acceptable (au1_fault a.unit.now) (sym judged.typed-fault.ensures ∙ k.enum_told.given.1)
 
 typed-fault-requires : tie.Need-typed-fault-requires
 typed-fault-requires c κs = search rules
@@ -51,7 +51,7 @@ returns-2 c =
     let judged = bound.before.before in
     let start = judged.before.before.before.before in
     let a = start.args in
-    indication-faulty a.acceptable a.own a.t a.ra a.unit.now a.store.now a.c a.out.now bound.reason.given.0.0 bound.reason.given.0.1.0
+    indication_faulty a.acceptable a.own a.t a.ra a.unit.now a.store.now a.c a.out.now bound.reason.given.0.0 bound.reason.given.0.1.0
     start.requires.1 start.requires.0 (sym judged.typed-fault.ensures ∙ bound.reason.given.1) done.rejected.ensures.0 done.rejected.ensures.1 done.rejected.ensures.2
 
 pub invited-spec : {M : Type 1} → statement M

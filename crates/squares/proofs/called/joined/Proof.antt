@@ -6,7 +6,7 @@ use borrow.Author.Rules.{rules}
 use Rattle.refusal.specs.House.{gives}
 use Rattle.units.proofs.BuiltLaws.{au1-long}
 use Rattle.table.specs.Steps.{found}
-use Rattle.table.proofs.SideLaws.{searched, made-type, place_inside, indication-refused, indication-answered}
+use Rattle.table.proofs.SideLaws.{searched, made_type, place_inside, indication-refused, indication-answered}
 use Rattle.squares.proofs.called.joined.Statement.{statement}
 use Rattle.squares.proofs.called.joined.Tie as tie
 
@@ -48,7 +48,7 @@ send-au2-requires c κs =
     let read = at.before.before.before in
     let start = read.before.before.before.before in
     let a = start.args in
-    (made-type a.store.now a.own read.sender-of.result a.t at.place.given.0.0 (place at) c.before.waiting.ensures refl, start.requires.1.0)
+    (made_type a.store.now a.own read.sender-of.result a.t at.place.given.0.0 (place at) c.before.waiting.ensures refl, start.requires.1.0)
 
 enum-known-h : tie.Need-enum-known-h
 enum-known-h c = search rules

@@ -2,7 +2,7 @@
 -- Assumes nothing.
 use mathlib.Core.Path.{sym, ◌∙◌}
 use borrow.Author.Rules.{rules}
-use Rattle.table.proofs.SideLaws.{by-fields, confirmation-faulty}
+use Rattle.table.proofs.SideLaws.{by-fields, confirmation_faulty}
 use Rattle.squares.proofs.calling.answered.Statement.{statement}
 use Rattle.squares.proofs.calling.answered.Tie as tie
 
@@ -38,7 +38,7 @@ returns-2 c =
     let a = start.args in
     let reason = bound.reason.given.0.0 in
     let sub = bound.reason.given.0.1.0 in
-    confirmation-faulty a.unit.now a.c a.out.now start.requires.1 start.requires.0 reason sub
+    confirmation_faulty a.unit.now a.c a.out.now start.requires.1 start.requires.0 reason sub
     (by-fields a.unit.now a.c reason sub (sym judged.au2-fields.ensures ∙ bound.reason.given.1))
     c.ended.ensures.0 c.ended.ensures.1
 

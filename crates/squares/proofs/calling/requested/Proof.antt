@@ -4,7 +4,7 @@ use mathlib.Core.Path.{◌≡◌, refl, ◌∙◌}
 use borrow.Author.Rules.{rules}
 use Rattle.refusal.specs.House.{gives}
 use Rattle.table.specs.Steps.{found}
-use Rattle.table.proofs.SideLaws.{searched, made-type, place_inside, request-untyped, request-refused, request-sent}
+use Rattle.table.proofs.SideLaws.{searched, made_type, place_inside, request_untyped, request-refused, request-sent}
 use Rattle.squares.proofs.calling.requested.Statement.{statement}
 use Rattle.squares.proofs.calling.requested.Tie as tie
 
@@ -23,7 +23,7 @@ returns c =
     let none = c.before in
     let start = none.before.before.before.before in
     let a = start.args in
-    request-untyped a.acceptable a.own a.peer a.t a.rb a.store.now a.c a.out.now start.requires.1 start.requires.0 none.before.if1.true
+    request_untyped a.acceptable a.own a.peer a.t a.rb a.store.now a.c a.out.now start.requires.1 start.requires.0 none.before.if1.true
     c.acting.ensures.0 (c.acting.ensures.1 ∙ none.none.ensures)
 
 search-requires : tie.Need-search-requires
@@ -46,7 +46,7 @@ send-au1-requires c κs =
     let at = c.before.before.before.before in
     let start = at.before.before.before.before.before.before in
     let a = start.args in
-    (made-type a.store.now a.own a.peer a.t at.place.given.0.0 (place at) c.before.waiting.ensures refl, start.requires.1)
+    (made_type a.store.now a.own a.peer a.t at.place.given.0.0 (place at) c.before.waiting.ensures refl, start.requires.1)
 
 enum-known-h : tie.Need-enum-known-h
 enum-known-h c = search rules

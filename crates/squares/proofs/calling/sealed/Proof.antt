@@ -3,7 +3,7 @@
 use native.Mathlib.Omega.{arith}
 use borrow.Author.Rules.{rules}
 use Rattle.units.proofs.BuiltLaws.{au2-long}
-use Rattle.table.proofs.SideLaws.{by-seal, confirmation-faulty, confirmation-answered}
+use Rattle.table.proofs.SideLaws.{by-seal, confirmation_faulty, confirmation_answered}
 use Rattle.squares.proofs.calling.sealed.Statement.{statement}
 use Rattle.squares.proofs.calling.sealed.Tie as tie
 
@@ -46,7 +46,7 @@ returns c =
     let a = start.args in
     let ra = read.random-of.ensures in
     let made = learnt.learning.ensures in
-    confirmation-answered a.unit.now a.c a.out.now start.requires.1.0 start.requires.0
+    confirmation_answered a.unit.now a.c a.out.now start.requires.1.0 start.requires.0
     (by-seal a.unit.now a.c start.requires.1.1 ra made judged.au2-seal.ensures told.enum_told.given.1) ra made
     sent.send-au3.ensures.0 sent.send-au3.ensures.1 sent.send-au3.ensures.2
 
@@ -58,7 +58,7 @@ returns-2 c =
     let read = learnt.before in
     let start = read.before.before.before in
     let a = start.args in
-    confirmation-faulty a.unit.now a.c a.out.now start.requires.1.0 start.requires.0 bound.reason.given.0.0 bound.reason.given.0.1.0
+    confirmation_faulty a.unit.now a.c a.out.now start.requires.1.0 start.requires.0 bound.reason.given.0.0 bound.reason.given.0.1.0
     (by-seal a.unit.now a.c start.requires.1.1 read.random-of.ensures learnt.learning.ensures judged.au2-seal.ensures bound.reason.given.1)
     c.ended.ensures.0 c.ended.ensures.1
 

@@ -7,7 +7,7 @@ use Prim.Native.Nat.{ℕ}
 use borrow.Author.Rules.{rules}
 use Rattle.authentication.specs.Unit.{checked, data_of}
 use Rattle.table.specs.Table.{state_of}
-use Rattle.table.proofs.UnitLaws.{dt-elsewhere-up, dt-up}
+use Rattle.table.proofs.UnitLaws.{dt_elsewhere_up, dt-up}
 use Rattle.squares.proofs.received.data_of.Statement.{statement}
 use Rattle.squares.proofs.received.data_of.Tie as tie
 
@@ -18,7 +18,7 @@ returns : tie.Need-returns
 returns c =
     let tested = c.before in
     let start = tested.before.before.before.before in
-    dt-elsewhere-up _ _ start.args.out.now start.requires tested.if1.true
+    dt_elsewhere_up _ _ start.args.out.now start.requires tested.if1.true
 
 slice-aggregate-user-data : tie.Need-slice-aggregate-user-data
 slice-aggregate-user-data c = search rules

@@ -5,13 +5,13 @@ use borrow.Author.Rules.{rules}
 use mathlib.Core.Bool.{not}
 use mathlib.Core.List.{List}
 use Prim.Native.Nat.{ℕ}
-use Rattle.authentication.specs.Unit.{checked, checkedAs}
-use Rattle.units.specs.Units.{etcsId, code}
+use Rattle.authentication.specs.Unit.{checked, checked_as}
+use Rattle.units.specs.Units.{etcs_id, code}
 use Rattle.table.specs.declared.Kind.TheVariants.{Dt}
 use Rattle.table.specs.declared.State.TheVariants.{DATA}
 use Rattle.table.specs.declared.ToTransport.TheVariants.{Quiet}
 use Rattle.table.specs.declared.Timer.TheVariants.{Keep}
-use Rattle.table.specs.Table.{ok, SaDataInd, to, squareOf, square, row_in, table}
+use Rattle.table.specs.Table.{ok, SaDataInd, to, square_of, square, row_in, table}
 use Rattle.table.specs.Steps.{carried}
 use Rattle.table.proofs.UnitLaws.{unit-quiet, dt-accepted}
 use Rattle.squares.proofs.received.judge_dt.Statement.{statement}
@@ -19,7 +19,7 @@ use Rattle.squares.proofs.received.judge_dt.Tie as tie
 
 -- what check answered, of the own identity
 judged : (k : tie.After-check) → let start = k.before.before.before.before.before.before.before in
-    checked start.args.unit.now start.args.c.key (etcsId start.args.c.own) (not start.args.c.responder) ≡ checkedAs k.check.result
+    checked start.args.unit.now start.args.c.key (etcs_id start.args.c.own) (not start.args.c.responder) ≡ checked_as k.check.result
 judged k =
     let start = k.before.before.before.before.before.before.before in
     ap (λ (d : List ℕ). checked start.args.unit.now start.args.c.key d (not start.args.c.responder)) (sym k.before.before.etcs-id.ensures) ∙ sym k.check.ensures
@@ -50,7 +50,7 @@ refuse-dt-requires c κs =
     let told = c.before.before in
     let answer = told.before.before in
     let start = answer.before.before.before.before.before.before.before in
-    (start.requires.0, (start.requires.1, judged answer ∙ ap checkedAs told.h.given.1))
+    (start.requires.0, (start.requires.1, judged answer ∙ ap checked_as told.h.given.1))
 
 returns : tie.Need-returns
 unfolding carried square row_in table
@@ -58,8 +58,8 @@ returns c =
     let told = c.before.before.before in
     let answer = told.before.before in
     let start = answer.before.before.before.before.before.before.before in
-    unit-quiet Dt DATA (record { when = ok; why = code 0 0; count = told.n.given.0.0 }) (squareOf SaDataInd Quiet Keep (to DATA)) _ _ _ start.requires.1 start.requires.0
-    (dt-accepted _ _ _ (judged answer ∙ ap checkedAs told.n.given.1)) refl refl refl c.acting.ensures.0 (c.acting.ensures.1 ∙ c.before.entering.ensures)
+    unit-quiet Dt DATA (record { when = ok; why = code 0 0; count = told.n.given.0.0 }) (square_of SaDataInd Quiet Keep (to DATA)) _ _ _ start.requires.1 start.requires.0
+    (dt-accepted _ _ _ (judged answer ∙ ap checked_as told.n.given.1)) refl refl refl c.acting.ensures.0 (c.acting.ensures.1 ∙ c.before.entering.ensures)
 
 same_length : tie.Need-same-length
 same_length c = search rules

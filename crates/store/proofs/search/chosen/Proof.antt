@@ -3,15 +3,15 @@
 use mathlib.Core.Path.{◌≡◌, sym, ◌∙◌}
 use Prim.Native.Nat.{◌-◌, ◌≤◌}
 use native.Mathlib.Omega.{arith}
-use Rattle.store.specs.Store.{keyCount}
+use Rattle.store.specs.Store.{key_count}
 use Rattle.store.specs.Search.{serves}
 use Rattle.store.proofs.SoundLaws.{sound-says}
-use Rattle.store.proofs.LatestLaws.{Best, best-start, best-here, best-past, best-less, best-all}
+use Rattle.store.proofs.LatestLaws.{Best, best_start, best_here, best_past, best_less, best_all}
 use Rattle.store.proofs.search.chosen.Statement.{statement}
 use Rattle.store.proofs.search.chosen.Tie as tie
 
 abbrev invariant-loop : tie.invariant-loop
-invariant-loop s lim peer t n i₀ place₀ end₀ i place end = (i ≤ n) × (n ≡ keyCount s) × (Best (serves peer t) lim s n i place end)
+invariant-loop s lim peer t n i₀ place₀ end₀ i place end = (i ≤ n) × (n ≡ key_count s) × (Best (serves peer t) lim s n i place end)
 
 abbrev decreases-loop : tie.decreases-loop
 decreases-loop s lim peer t n i₀ place₀ end₀ i place end = i
@@ -25,7 +25,7 @@ number-at-requires c κs =
 loop-holds : tie.Need-loop-init invariant-loop decreases-loop
 loop-holds c =
     let a = c.before.before.args in
-    (omega arith, c.number_at.ensures.0, best-start (serves a.peer a.t) a.lim a.s.now c.number_at.result)
+    (omega arith, c.number_at.ensures.0, best_start (serves a.peer a.t) a.lim a.s.now c.number_at.result)
 
 sub-i : tie.Need-overflow-sub-i invariant-loop decreases-loop
 sub-i c = omega arith
@@ -53,7 +53,7 @@ loop-again c =
     let a = number_at.before.before.args in (
       omega arith,
       loop.loop.invariant.1,
-      best-here (serves a.peer a.t) a.lim a.s.now number_at.number_at.result loop.loop.i loop.loop.place loop.loop.«end» (omega arith)
+      best_here (serves a.peer a.t) a.lim a.s.now number_at.number_at.result loop.loop.i loop.loop.place loop.loop.«end» (omega arith)
           loop.loop.invariant.0 loop.loop.invariant.2 end-at.end-at.result end-at.end-at.ensures (sym serves-at.serves-at.ensures ∙ c.if2.true) if1.if1.true,
     )
 
@@ -69,7 +69,7 @@ loop-again-2 c =
     let a = number_at.before.before.args in (
       omega arith,
       loop.loop.invariant.1,
-      best-past (serves a.peer a.t) a.lim a.s.now number_at.number_at.result loop.loop.i loop.loop.place loop.loop.«end» (omega arith)
+      best_past (serves a.peer a.t) a.lim a.s.now number_at.number_at.result loop.loop.i loop.loop.place loop.loop.«end» (omega arith)
           loop.loop.invariant.0 loop.loop.invariant.2 (sym serves-at.serves-at.ensures ∙ c.if2.false),
     )
 
@@ -84,7 +84,7 @@ loop-again-3 c =
     let a = number_at.before.before.args in (
       omega arith,
       loop.loop.invariant.1,
-      best-less (serves a.peer a.t) a.lim a.s.now number_at.number_at.result loop.loop.i loop.loop.place loop.loop.«end» (omega arith)
+      best_less (serves a.peer a.t) a.lim a.s.now number_at.number_at.result loop.loop.i loop.loop.place loop.loop.«end» (omega arith)
           loop.loop.invariant.0 loop.loop.invariant.2 end-at.end-at.result end-at.end-at.ensures c.if1.false,
     )
 
@@ -93,7 +93,7 @@ returns c =
     let loop = c.before in
     let number_at = loop.before in
     let a = number_at.before.before.args in
-    best-all (serves a.peer a.t) a.lim a.s.now number_at.number_at.result loop.loop.i loop.loop.place loop.loop.«end» (omega arith) loop.loop.invariant.1 loop.loop.invariant.2
+    best_all (serves a.peer a.t) a.lim a.s.now number_at.number_at.result loop.loop.i loop.loop.place loop.loop.«end» (omega arith) loop.loop.invariant.1 loop.loop.invariant.2
 
 pub chosen-spec : {M : Type 1} → statement M
 chosen-spec =

@@ -6,7 +6,7 @@ use Prim.Native.Nat.{◌+◌, ◌-◌, ◌*◌, ◌≤◌}
 use native.Mathlib.Omega.{arith}
 use native.Mathlib.Nat.{sub-zero}
 use Rattle.octets.specs.Words.{numbers, elem}
-use Rattle.octets.proofs.WordLaws.{elem-turn, elem-here, elem_end}
+use Rattle.octets.proofs.WordLaws.{elem_turn, elem-here, elem_end}
 use Rattle.store.proofs.search.has.Statement.{statement}
 use Rattle.store.proofs.search.has.Tie as tie
 
@@ -46,7 +46,7 @@ loop-again c =
       omega arith,
       omega arith,
       omega arith,
-      loop.loop.invariant.3 ∙ elem-turn a.x a.s.now loop.loop.a a.n loop.loop.k (omega arith) (λ e. c.if1.false (c.before.get32-at.ensures ∙ e)),
+      loop.loop.invariant.3 ∙ elem_turn a.x a.s.now loop.loop.a a.n loop.loop.k (omega arith) (λ e. c.if1.false (c.before.get32-at.ensures ∙ e)),
     )
 
 returns-2 : tie.Need-returns-2 invariant-loop decreases-loop

@@ -6,8 +6,8 @@ use Prim.Native.Nat.{ℕ, ◌+◌, ◌-◌, ◌*◌}
 use native.Mathlib.Omega.{arith}
 use borrow.Author.Tests.{not-true, not-false}
 use Rattle.octets.specs.Words.{numbers, elem}
-use Rattle.octets.proofs.BoolLaws.{and-false-left}
-use Rattle.store.specs.Layout.{peersAt}
+use Rattle.octets.proofs.BoolLaws.{and_false_left}
+use Rattle.store.specs.Layout.{peers_at}
 use Rattle.store.specs.Store.{entry_at}
 use Rattle.store.specs.Search.{fits}
 use Rattle.store.proofs.SearchLaws.{Room, room}
@@ -65,10 +65,10 @@ returns c =
     let i = start.args.i in
     let peer = start.args.peer in
     let peers : elem peer (entry_at L s i).peers ≡ false =
-    ap₂ (λ (x y : ℕ). elem peer (numbers s (peersAt L + 4 * x) y)) (sym number_at.number_at.ensures.0) (sym number-at2.number-at2.ensures.0)
+    ap₂ (λ (x y : ℕ). elem peer (numbers s (peers_at L + 4 * x) y)) (sym number_at.number_at.ensures.0) (sym number-at2.number-at2.ensures.0)
     ∙ sym has.has.ensures ∙ not-true has.has.result c.if1.true in
     let e = entry_at L s i in
-    sym (and-false-left (elem peer e.peers) (fits e.start e.end start.args.t) peers)
+    sym (and_false_left (elem peer e.peers) (fits e.start e.end start.args.t) peers)
 
 add-get32-at : tie.Need-overflow-add-get32-at
 add-get32-at c = let r = roomy c.before.before.before.before.before in omega arith
@@ -98,7 +98,7 @@ returns-2 c =
     let i = start.args.i in
     let peer = start.args.peer in
     let peers : elem peer (entry_at L s i).peers ≡ true =
-    ap₂ (λ (x y : ℕ). elem peer (numbers s (peersAt L + 4 * x) y)) (sym number_at.number_at.ensures.0) (sym number-at2.number-at2.ensures.0)
+    ap₂ (λ (x y : ℕ). elem peer (numbers s (peers_at L + 4 * x) y)) (sym number_at.number_at.ensures.0) (sym number-at2.number-at2.ensures.0)
     ∙ sym has.has.ensures ∙ not-false has.has.result if1.if1.false in
     let e = entry_at L s i in
     let t = start.args.t in

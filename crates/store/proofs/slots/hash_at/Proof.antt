@@ -1,7 +1,7 @@
 -- `store::slots::hash_at` meets its contract.
 -- Assumes nothing.
 use borrow.Author.Rules.{rules}
-use Rattle.store.specs.Slots.{hashOf}
+use Rattle.store.specs.Slots.{hash_of}
 use Rattle.store.proofs.slots.hash_at.Statement.{statement}
 use Rattle.store.proofs.slots.hash_at.Tie as tie
 
@@ -42,7 +42,7 @@ add-result : tie.Need-overflow-add-result
 add-result c = search rules
 
 returns : tie.Need-returns
-unfolding hashOf
+unfolding hash_of
 returns c = search rules
 
 pub hash-at-spec : {M : Type 1} → statement M

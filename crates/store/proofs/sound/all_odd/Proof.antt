@@ -8,16 +8,16 @@ use Prim.Native.Nat.{ℕ, ◌+◌, ◌-◌, ◌%◌, ◌≤◌, ◌<◌}
 use native.Mathlib.Omega.{arith}
 use borrow.Author.Tests.{eq-eqb, ne_eqb}
 use Rattle.octets.specs.Bytes.{part, all_below}
-use Rattle.octets.proofs.BoolLaws.{allBelow-more, allBelow-fails}
+use Rattle.octets.proofs.BoolLaws.{all_below_more, all_below_fails}
 use lib.Count.{ones}
 use Rattle.octets.proofs.PartLaws.{part_at, part_length}
-use Rattle.store.specs.Store.{isOdd, allOdd}
+use Rattle.store.specs.Store.{is_odd, all_odd}
 use Rattle.store.proofs.sound.all_odd.Statement.{statement}
 use Rattle.store.proofs.sound.all_odd.Tie as tie
 
 -- byte k of the KMAC at index i is odd
 abbrev oddAt : List ℕ → ℕ → ℕ → Bool
-oddAt s i k = isOdd (get_or (part s i 24) k 0)
+oddAt s i k = is_odd (get_or (part s i 24) k 0)
 
 -- it is the byte at index i + k
 at-index : (s : List ℕ) (i k : ℕ) → k < 24 → ones (get_or (part s i 24) k 0) % 2 ≡ ones (get_or s (i + k) 0) % 2
@@ -40,7 +40,7 @@ shared-slice-read-if1 : tie.Need-shared-slice-read-if1 invariant-loop decreases-
 shared-slice-read-if1 c = omega arith
 
 returns : tie.Need-returns invariant-loop decreases-loop
-unfolding allOdd
+unfolding all_odd
 returns c =
     let loop = c.before.before.before in
     let start = loop.before in
@@ -49,7 +49,7 @@ returns c =
     let k = loop.loop.k in
     let odd : ℕ → Bool = oddAt s a.i in
     sym (ap (λ (x : ℕ). all_below x odd) (part_length s a.i 24 start.requires)
-    ∙ allBelow-fails 24 k odd (omega arith) (ne_eqb _ 1 (λ e. c.if1.true (sym (at-index s a.i k (omega arith)) ∙ e))))
+    ∙ all_below_fails 24 k odd (omega arith) (ne_eqb _ 1 (λ e. c.if1.true (sym (at-index s a.i k (omega arith)) ∙ e))))
 
 add-k : tie.Need-overflow-add-k invariant-loop decreases-loop
 add-k c = omega arith
@@ -63,10 +63,10 @@ loop-again c =
     let start = loop.before in
     let a = start.args in
     let k = loop.loop.k in
-    (omega arith, omega arith, allBelow-more k (oddAt a.s.now a.i) loop.loop.invariant.2 (eq-eqb _ 1 (at-index a.s.now a.i k (omega arith) ∙ c.if1.false)))
+    (omega arith, omega arith, all_below_more k (oddAt a.s.now a.i) loop.loop.invariant.2 (eq-eqb _ 1 (at-index a.s.now a.i k (omega arith) ∙ c.if1.false)))
 
 returns-2 : tie.Need-returns-2 invariant-loop decreases-loop
-unfolding allOdd
+unfolding all_odd
 returns-2 c =
     let loop = c.before in
     let start = loop.before in

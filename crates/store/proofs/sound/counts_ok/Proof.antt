@@ -6,8 +6,8 @@ use lib.Dec.{leb}
 use Prim.Native.Nat.{ℕ, ◌-◌}
 use native.Mathlib.Omega.{arith}
 use borrow.Author.Tests.{le-leb, lt-leb}
-use Rattle.octets.proofs.BoolLaws.{and-false-left}
-use Rattle.store.specs.Store.{keyCount, peerCount, countsOk}
+use Rattle.octets.proofs.BoolLaws.{and_false_left}
+use Rattle.store.specs.Store.{key_count, peer_count, counts_ok}
 use borrow.Author.Rules.{rules}
 use Rattle.store.proofs.sound.counts_ok.Statement.{statement}
 use Rattle.store.proofs.sound.counts_ok.Tie as tie
@@ -16,24 +16,24 @@ number-at-requires : tie.Need-number-at-requires
 number-at-requires c κs = search rules
 
 returns : tie.Need-returns
-unfolding countsOk
+unfolding counts_ok
 returns c =
     let start = c.before.before.before in
     let L = start.args.lim in
     let s = start.args.s.now in
-    sym (and-false-left (leb (keyCount s) L.keys) (leb (peerCount s) L.peers) (lt-leb (keyCount s) L.keys (omega arith)))
+    sym (and_false_left (leb (key_count s) L.keys) (leb (peer_count s) L.peers) (lt-leb (key_count s) L.keys (omega arith)))
 
 number-at-requires-2 : tie.Need-number-at-requires-2
 number-at-requires-2 c κs = search rules
 
 returns-2 : tie.Need-returns-2
-unfolding countsOk
+unfolding counts_ok
 returns-2 c =
     let start = c.before.before.before.before in
     let L = start.args.lim in
     let s = start.args.s.now in
     ap (λ (x : ℕ). leb x L.peers) c.number-at2.ensures.0
-    ∙ sym (ap (λ (x : Bool). x && leb (peerCount s) L.peers) (le-leb (keyCount s) L.keys (omega arith)))
+    ∙ sym (ap (λ (x : Bool). x && leb (peer_count s) L.peers) (le-leb (key_count s) L.keys (omega arith)))
 
 pub counts-ok-spec : {M : Type 1} → statement M
 counts-ok-spec = tie.close (tie.spec number-at-requires returns number-at-requires-2 returns-2)

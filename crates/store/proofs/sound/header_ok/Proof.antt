@@ -6,9 +6,9 @@ use lib.Dec.{eqb}
 use mathlib.Core.List.{[], ◌∷◌}
 use Prim.Native.Nat.{ℕ, ◌-◌}
 use Rattle.octets.specs.Bytes.{get16}
-use Rattle.store.specs.Layout.{peersAt, total}
-use Rattle.store.specs.Store.{headerTests, headerOk}
-use Rattle.store.proofs.SoundLaws.{allHold-none, allHold-cons, allHold-last, allHold-fails, reads-is, reads-not}
+use Rattle.store.specs.Layout.{peers_at, total}
+use Rattle.store.specs.Store.{header_tests, header_ok}
+use Rattle.store.proofs.SoundLaws.{all_hold-none, all_hold-cons, all_hold-last, all_hold_fails, reads_is, reads_not}
 use borrow.Author.Rules.{rules}
 use Rattle.store.proofs.sound.header_ok.Statement.{statement}
 use Rattle.store.proofs.sound.header_ok.Tie as tie
@@ -29,45 +29,45 @@ number-at-requires : tie.Need-number-at-requires
 number-at-requires c κs = search rules
 
 returns : tie.Need-returns
-unfolding headerOk
+unfolding header_ok
 returns c =
     let number_at = c.before in
     let start = number_at.before.before.before.before in
     let L = start.args.lim in
     let s = start.args.s.now in
-    sym (allHold-fails (headerTests L s) 0 (reads-not (get16 s 0) number_at.number_at.result L.edition number_at.number_at.ensures.0 c.if1.true))
+    sym (all_hold_fails (header_tests L s) 0 (reads_not (get16 s 0) number_at.number_at.result L.edition number_at.number_at.ensures.0 c.if1.true))
 
 number-at-requires-2 : tie.Need-number-at-requires-2
 number-at-requires-2 c κs = search rules
 
 returns-2 : tie.Need-returns-2
-unfolding headerOk
+unfolding header_ok
 returns-2 c =
     let number-at2 = c.before in
     let struct-known-at = number-at2.before.before.before.before in
     let start = struct-known-at.before.before in
     let L = start.args.lim in
     let s = start.args.s.now in
-    sym (allHold-fails (headerTests L s) 1 (reads-not (get16 s 4) number-at2.number-at2.result (12) number-at2.number-at2.ensures.0 c.if2.true))
+    sym (all_hold_fails (header_tests L s) 1 (reads_not (get16 s 4) number-at2.number-at2.result (12) number-at2.number-at2.ensures.0 c.if2.true))
 
 number-at-requires-3 : tie.Need-number-at-requires-3
 number-at-requires-3 c κs = search rules
 
 returns-3 : tie.Need-returns-3
-unfolding headerOk
+unfolding header_ok
 returns-3 c =
     let number-at3 = c.before in
     let number-at-at = number-at3.before.before.before.before in
     let start = number-at-at.before.before.before.before in
     let L = start.args.lim in
     let s = start.args.s.now in
-    sym (allHold-fails (headerTests L s) 2 (reads-not (get16 s 8) number-at3.number-at3.result (peersAt L) number-at3.number-at3.ensures.0 c.if3.true))
+    sym (all_hold_fails (header_tests L s) 2 (reads_not (get16 s 8) number-at3.number-at3.result (peers_at L) number-at3.number-at3.ensures.0 c.if3.true))
 
 number-at-requires-4 : tie.Need-number-at-requires-4
 number-at-requires-4 c κs = search rules
 
 returns-4 : tie.Need-returns-4
-unfolding headerOk
+unfolding header_ok
 returns-4 c =
     let if3 = c.before in
     let number-at3 = if3.before in
@@ -80,12 +80,12 @@ returns-4 c =
     let s = start.args.s.now in
     let b1 : Bool = eqb (get16 s 0) L.edition in
     let b2 : Bool = eqb (get16 s 4) 12 in
-    let b3 : Bool = eqb (get16 s 8) (peersAt L) in
+    let b3 : Bool = eqb (get16 s 8) (peers_at L) in
     ap (λ (x : ℕ). eqb x (total L)) c.number-at4.ensures.0
-    ∙ sym (allHold-last (b1 ∷ b2 ∷ b3 ∷ []) (eqb (get16 s 10) (total L))
-    (allHold-cons b1 _ (reads-is (get16 s 0) number_at.number_at.result L.edition number_at.number_at.ensures.0 if1.if1.false)
-    (allHold-cons b2 _ (reads-is (get16 s 4) number-at2.number-at2.result (12) number-at2.number-at2.ensures.0 if2.if2.false)
-    (allHold-cons b3 [] (reads-is (get16 s 8) number-at3.number-at3.result (peersAt L) number-at3.number-at3.ensures.0 if3.if3.false) allHold-none))))
+    ∙ sym (all_hold-last (b1 ∷ b2 ∷ b3 ∷ []) (eqb (get16 s 10) (total L))
+    (all_hold-cons b1 _ (reads_is (get16 s 0) number_at.number_at.result L.edition number_at.number_at.ensures.0 if1.if1.false)
+    (all_hold-cons b2 _ (reads_is (get16 s 4) number-at2.number-at2.result (12) number-at2.number-at2.ensures.0 if2.if2.false)
+    (all_hold-cons b3 [] (reads_is (get16 s 8) number-at3.number-at3.result (peers_at L) number-at3.number-at3.ensures.0 if3.if3.false) all_hold-none))))
 
 pub header-ok-spec : {M : Type 1} → statement M
 header-ok-spec =

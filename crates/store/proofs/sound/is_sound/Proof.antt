@@ -6,18 +6,18 @@ use Prim.Native.Nat.{◌-◌, ◌≤◌}
 use native.Mathlib.Omega.{arith}
 use borrow.Author.Tests.{eq-eqb, ne_eqb, not-true, not-false}
 use Rattle.store.specs.Layout.{total}
-use Rattle.store.specs.Store.{keyCount, peerCount}
-use Rattle.store.proofs.SoundLaws.{unsound, unused-decides, countsOk-says}
+use Rattle.store.specs.Store.{key_count, peer_count}
+use Rattle.store.proofs.SoundLaws.{unsound, unused_decides, counts_ok-says}
 use borrow.Author.Rules.{rules}
 use Rattle.store.proofs.sound.is_sound.Statement.{statement}
 use Rattle.store.proofs.sound.is_sound.Tie as tie
 
 -- the counts, once they are tested
-counted : (k : tie.Else3) → let tested = k.before.before.before in let a = tested.before.before.before.args in (keyCount a.s.now ≤ a.lim.keys) × (peerCount a.s.now ≤ a.lim.peers)
+counted : (k : tie.Else3) → let tested = k.before.before.before in let a = tested.before.before.before.args in (key_count a.s.now ≤ a.lim.keys) × (peer_count a.s.now ≤ a.lim.peers)
 counted k =
     let counts = k.before in
     let a = counts.before.before.before.before.before.args in
-    countsOk-says a.lim a.s.now (sym counts.counts-ok.ensures ∙ not-false counts.counts-ok.result k.if3.false)
+    counts_ok-says a.lim a.s.now (sym counts.counts-ok.ensures ∙ not-false counts.counts-ok.result k.if3.false)
 
 mul-if1 : tie.Need-overflow-mul-if1
 mul-if1 c = search rules
@@ -119,7 +119,7 @@ returns-7 c =
     let start = if1.before.before in
     let a = start.args in
     c.unused-ok.ensures
-    ∙ sym (unused-decides a.lim a.s.now (eq-eqb (length a.s.now) (total a.lim) if1.if1.false)
+    ∙ sym (unused_decides a.lim a.s.now (eq-eqb (length a.s.now) (total a.lim) if1.if1.false)
     (sym header_ok.header_ok.ensures ∙ not-false header_ok.header_ok.result if2.if2.false)
     (sym counts-ok.counts-ok.ensures ∙ not-false counts-ok.counts-ok.result if3.if3.false)
     (sym sums-ok.sums-ok.ensures ∙ not-false sums-ok.sums-ok.result if4.if4.false)

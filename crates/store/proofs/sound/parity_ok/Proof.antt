@@ -8,18 +8,18 @@ use Prim.Native.Nat.{ℕ, ◌-◌, ◌≤◌, ◌<◌}
 use native.Mathlib.Omega.{arith}
 use borrow.Author.Tests.{not-true, not-false}
 use Rattle.octets.specs.Bytes.{all_below}
-use Rattle.octets.proofs.BoolLaws.{allBelow-more, allBelow-fails}
-use Rattle.store.specs.Layout.{recordAt}
-use Rattle.store.specs.Store.{keyCount, kmacAt, allOdd, parityOk}
+use Rattle.octets.proofs.BoolLaws.{all_below_more, all_below_fails}
+use Rattle.store.specs.Layout.{record_at}
+use Rattle.store.specs.Store.{key_count, kmac_at, all_odd, parity_ok}
 use Rattle.store.proofs.sound.parity_ok.Statement.{statement}
 use Rattle.store.proofs.sound.parity_ok.Tie as tie
 
 -- the KMAC of record i is of odd parity
 abbrev oddKey : List ℕ → ℕ → Bool
-oddKey s i = allOdd (kmacAt s i)
+oddKey s i = all_odd (kmac_at s i)
 
 abbrev invariant-loop : tie.invariant-loop
-invariant-loop s n i₀ i = (i ≤ n) × (n ≡ keyCount s) × (n < 65536) × (recordAt n ≤ length s) × (all_below i (oddKey s) ≡ true)
+invariant-loop s n i₀ i = (i ≤ n) × (n ≡ key_count s) × (n < 65536) × (record_at n ≤ length s) × (all_below i (oddKey s) ≡ true)
 
 abbrev decreases-loop : tie.decreases-loop
 decreases-loop s n i₀ i = n - i
@@ -44,13 +44,13 @@ all-odd-requires : tie.Need-all-odd-requires invariant-loop decreases-loop
 all-odd-requires c κs = omega arith
 
 returns : tie.Need-returns invariant-loop decreases-loop
-unfolding parityOk
+unfolding parity_ok
 returns c =
     let all-odd = c.before in
     let loop = all-odd.before.before in
     let start = loop.before.before.before in
     let s = start.args.s.now in
-    sym (allBelow-fails (keyCount s) loop.loop.i (oddKey s) (omega arith) (sym all-odd.all-odd.ensures ∙ not-true all-odd.all-odd.result c.if1.true))
+    sym (all_below_fails (key_count s) loop.loop.i (oddKey s) (omega arith) (sym all-odd.all-odd.ensures ∙ not-true all-odd.all-odd.result c.if1.true))
 
 add-i : tie.Need-overflow-add-i invariant-loop decreases-loop
 add-i c = omega arith
@@ -68,15 +68,15 @@ loop-again c =
       loop.loop.invariant.1,
       loop.loop.invariant.2,
       loop.loop.invariant.3,
-      allBelow-more loop.loop.i (oddKey s) loop.loop.invariant.4 (sym all-odd.all-odd.ensures ∙ not-false all-odd.all-odd.result c.if1.false),
+      all_below_more loop.loop.i (oddKey s) loop.loop.invariant.4 (sym all-odd.all-odd.ensures ∙ not-false all-odd.all-odd.result c.if1.false),
     )
 
 returns-2 : tie.Need-returns-2 invariant-loop decreases-loop
-unfolding parityOk
+unfolding parity_ok
 returns-2 c =
     let loop = c.before in
     let start = loop.before.before.before in
-    let e : loop.loop.i ≡ keyCount start.args.s.now = omega arith in
+    let e : loop.loop.i ≡ key_count start.args.s.now = omega arith in
     sym (rw e at loop.loop.invariant.4)
 
 pub parity-ok-spec : {M : Type 1} → statement M

@@ -1,4 +1,4 @@
--- `store::sound::same_key` meets its contract.
+-- `store::sound::same_found_key` meets its contract.
 -- Assumes nothing.
 use mathlib.Core.Path.{sym, ap, ap₂, ◌∙◌}
 use mathlib.Core.Bool.{Bool, ◌&&◌}
@@ -6,11 +6,11 @@ use lib.Dec.{eqb}
 use Prim.Native.Nat.{ℕ, ◌+◌, ◌-◌}
 use borrow.Author.Tests.{eq-eqb, ne_eqb}
 use Rattle.octets.specs.Bytes.{get32}
-use Rattle.octets.proofs.BoolLaws.{and-false-left}
-use Rattle.store.specs.Layout.{recordAt}
+use Rattle.octets.proofs.BoolLaws.{and_false_left}
+use Rattle.store.specs.Layout.{record_at}
 use borrow.Author.Rules.{rules}
-use Rattle.store.proofs.sound.same_key.Statement.{statement}
-use Rattle.store.proofs.sound.same_key.Tie as tie
+use Rattle.store.proofs.sound.same_found_key.Statement.{statement}
+use Rattle.store.proofs.sound.same_found_key.Tie as tie
 
 mul-a : tie.Need-overflow-mul-a
 mul-a c = search rules
@@ -36,9 +36,9 @@ returns c =
     let get32-at = get32-at2.before in
     let start = get32-at.before.before in
     let s = start.args.s.now in
-    let a : ℕ = recordAt start.args.i in
-    let b : ℕ = recordAt start.args.j in
-    sym (and-false-left (eqb (get32 s a) (get32 s b)) (eqb (get32 s (a + 4)) (get32 s (b + 4)))
+    let a : ℕ = record_at start.args.i in
+    let b : ℕ = record_at start.args.j in
+    sym (and_false_left (eqb (get32 s a) (get32 s b)) (eqb (get32 s (a + 4)) (get32 s (b + 4)))
     (ne_eqb (get32 s a) (get32 s b) (λ e. c.if1.true (get32-at.get32-at.ensures ∙ e ∙ sym get32-at2.get32-at2.ensures))))
 
 add-get32-at : tie.Need-overflow-add-get32-at
@@ -61,8 +61,8 @@ returns-2 c =
     let get32-at = get32-at2.before in
     let start = get32-at.before.before in
     let s = start.args.s.now in
-    let a : ℕ = recordAt start.args.i in
-    let b : ℕ = recordAt start.args.j in
+    let a : ℕ = record_at start.args.i in
+    let b : ℕ = record_at start.args.j in
     ap₂ (λ (x y : ℕ). eqb x y) get32-at3.get32-at3.ensures c.get32-at4.ensures
     ∙ sym (ap (λ (x : Bool). x && eqb (get32 s (a + 4)) (get32 s (b + 4)))
     (eq-eqb (get32 s a) (get32 s b) (sym get32-at.get32-at.ensures ∙ if1.if1.false ∙ get32-at2.get32-at2.ensures)))

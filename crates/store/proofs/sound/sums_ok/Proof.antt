@@ -9,14 +9,14 @@ use native.Mathlib.Omega.{arith}
 use native.Mathlib.Numerals.{add-one}
 use borrow.Author.Tests.{eq-eqb, ne_eqb}
 use Rattle.octets.specs.Bytes.{all_below}
-use Rattle.octets.proofs.BoolLaws.{and-false-left, allBelow-more, allBelow-fails}
-use Rattle.store.specs.Layout.{recordAt}
-use Rattle.store.specs.Store.{keyCount, peerCount, first, sumBefore, sum_at, sumsOk}
+use Rattle.octets.proofs.BoolLaws.{and_false_left, all_below_more, all_below_fails}
+use Rattle.store.specs.Layout.{record_at}
+use Rattle.store.specs.Store.{key_count, peer_count, first, sum_before, sum_at, sums_ok}
 use Rattle.store.proofs.sound.sums_ok.Statement.{statement}
 use Rattle.store.proofs.sound.sums_ok.Tie as tie
 
 abbrev invariant-loop : tie.invariant-loop
-invariant-loop s n m sum₀ i₀ sum i = (i ≤ n) × (n ≡ keyCount s) × (m ≡ peerCount s) × (n < 65536) × (recordAt n ≤ length s) × (sum ≡ sumBefore s i) × (sum ≤ 65535 * i) × (all_below i (sum_at s) ≡ true)
+invariant-loop s n m sum₀ i₀ sum i = (i ≤ n) × (n ≡ key_count s) × (m ≡ peer_count s) × (n < 65536) × (record_at n ≤ length s) × (sum ≡ sum_before s i) × (sum ≤ 65535 * i) × (all_below i (sum_at s) ≡ true)
 
 abbrev decreases-loop : tie.decreases-loop
 decreases-loop s n m sum₀ i₀ sum i = n - i
@@ -28,7 +28,7 @@ number-at-requires-2 : tie.Need-number-at-requires-2 invariant-loop decreases-lo
 number-at-requires-2 c κs = omega arith
 
 loop-holds : tie.Need-loop-init invariant-loop decreases-loop
-unfolding all_below sumBefore
+unfolding all_below sum_before
 loop-holds c =
     let number_at = c.before in
     (omega arith, number_at.number_at.ensures.0, c.number-at2.ensures.0, number_at.number_at.ensures.1, omega arith, refl, omega arith, refl)
@@ -46,16 +46,16 @@ number-at-requires-3 : tie.Need-number-at-requires-3 invariant-loop decreases-lo
 number-at-requires-3 c κs = omega arith
 
 returns : tie.Need-returns invariant-loop decreases-loop
-unfolding sumsOk
+unfolding sums_ok
 returns c =
     let number-at3 = c.before in
     let loop = number-at3.before.before in
     let start = loop.before.before.before.before in
     let s = start.args.s.now in
     let i = loop.loop.i in
-    let n = keyCount s in
-    sym (and-false-left (all_below n (sum_at s)) (eqb (sumBefore s n) (peerCount s))
-    (allBelow-fails n i (sum_at s) (omega arith) (ne_eqb (first s i) (sumBefore s i) (λ e. c.if1.true (number-at3.number-at3.ensures.0 ∙ e ∙ sym loop.loop.invariant.5)))))
+    let n = key_count s in
+    sym (and_false_left (all_below n (sum_at s)) (eqb (sum_before s n) (peer_count s))
+    (all_below_fails n i (sum_at s) (omega arith) (ne_eqb (first s i) (sum_before s i) (λ e. c.if1.true (number-at3.number-at3.ensures.0 ∙ e ∙ sym loop.loop.invariant.5)))))
 
 mul-number-at-2 : tie.Need-overflow-mul-number-at-2 invariant-loop decreases-loop
 mul-number-at-2 c = omega arith
@@ -79,7 +79,7 @@ loop-less : tie.Need-loop-smaller invariant-loop decreases-loop
 loop-less c = omega arith
 
 loop-again : tie.Need-loop-preserved invariant-loop decreases-loop
-unfolding sumBefore
+unfolding sum_before
 loop-again c =
     let if1 = c.before in
     let number-at3 = if1.before in
@@ -92,21 +92,21 @@ loop-again c =
       loop.loop.invariant.2,
       loop.loop.invariant.3,
       loop.loop.invariant.4,
-      rw (add-one i) (ap (λ (x : ℕ). x + c.number-at4.result) loop.loop.invariant.5 ∙ ap (λ (x : ℕ). sumBefore s i + x) c.number-at4.ensures.0),
+      rw (add-one i) (ap (λ (x : ℕ). x + c.number-at4.result) loop.loop.invariant.5 ∙ ap (λ (x : ℕ). sum_before s i + x) c.number-at4.ensures.0),
       omega arith,
-      allBelow-more i (sum_at s) loop.loop.invariant.7 (eq-eqb (first s i) (sumBefore s i) (sym number-at3.number-at3.ensures.0 ∙ if1.if1.false ∙ loop.loop.invariant.5)),
+      all_below_more i (sum_at s) loop.loop.invariant.7 (eq-eqb (first s i) (sum_before s i) (sym number-at3.number-at3.ensures.0 ∙ if1.if1.false ∙ loop.loop.invariant.5)),
     )
 
 returns-2 : tie.Need-returns-2 invariant-loop decreases-loop
-unfolding sumsOk
+unfolding sums_ok
 returns-2 c =
     let loop = c.before in
     let start = loop.before.before.before.before in
     let s = start.args.s.now in
-    let e : loop.loop.i ≡ keyCount s = omega arith in
-    let t : all_below (keyCount s) (sum_at s) ≡ true = rw e at loop.loop.invariant.7 in
-    let u : loop.loop.sum ≡ sumBefore s (keyCount s) = loop.loop.invariant.5 ∙ ap (λ (x : ℕ). sumBefore s x) e in
-    ap₂ (λ (x y : ℕ). eqb x y) u loop.loop.invariant.2 ∙ sym (ap (λ (x : Bool). x && eqb (sumBefore s (keyCount s)) (peerCount s)) t)
+    let e : loop.loop.i ≡ key_count s = omega arith in
+    let t : all_below (key_count s) (sum_at s) ≡ true = rw e at loop.loop.invariant.7 in
+    let u : loop.loop.sum ≡ sum_before s (key_count s) = loop.loop.invariant.5 ∙ ap (λ (x : ℕ). sum_before s x) e in
+    ap₂ (λ (x y : ℕ). eqb x y) u loop.loop.invariant.2 ∙ sym (ap (λ (x : Bool). x && eqb (sum_before s (key_count s)) (peer_count s)) t)
 
 pub sums-ok-spec : {M : Type 1} → statement M
 sums-ok-spec =

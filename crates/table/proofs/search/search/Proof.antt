@@ -3,8 +3,8 @@
 use mathlib.Core.Path.{sym, ap, ◌∙◌}
 use mathlib.Core.Bool.{true, false}
 use borrow.Author.Rules.{rules}
-use Rattle.refusal.specs.House.{houseNumber}
-use Rattle.store.specs.Search.{foundAs}
+use Rattle.refusal.specs.House.{house_number}
+use Rattle.store.specs.Search.{found_as}
 use Rattle.table.proofs.SideLaws.{found-by, unfound-by}
 use Rattle.table.proofs.search.search.Statement.{statement}
 use Rattle.table.proofs.search.search.Tie as tie
@@ -24,7 +24,7 @@ returns c =
     let find = at.before.before in
     let a = find.before.before.args in
     found-by a.store.now a.own a.peer a.t at.place.given.0.0 at.place.given.0.1.0 c.before.are-types.result true
-    (sym (ap foundAs at.place.given.1) ∙ find.find.ensures) c.before.are-types.ensures c.if1.true
+    (sym (ap found_as at.place.given.1) ∙ find.find.ensures) c.before.are-types.ensures c.if1.true
 
 enum-known-h : tie.Need-enum-known-h
 enum-known-h c = search rules
@@ -35,13 +35,13 @@ returns-2 c =
     let find = at.before.before in
     let a = find.before.before.args in
     found-by a.store.now a.own a.peer a.t at.place.given.0.0 at.place.given.0.1.0 c.before.are-types.result false
-    (sym (ap foundAs at.place.given.1) ∙ find.find.ensures) c.before.are-types.ensures c.if1.false
+    (sym (ap found_as at.place.given.1) ∙ find.find.ensures) c.before.are-types.ensures c.if1.false
 
 returns-3 : tie.Need-returns-3
 returns-3 c =
     let find = c.before.before.before in
     let a = find.before.before.args in
-    unfound-by a.store.now a.own a.peer a.t (houseNumber c.before.h.given.0.0) (sym (ap foundAs c.before.h.given.1) ∙ find.find.ensures)
+    unfound-by a.store.now a.own a.peer a.t (house_number c.before.h.given.0.0) (sym (ap found_as c.before.h.given.1) ∙ find.find.ensures)
 
 pub search-spec : {M : Type 1} → statement M
 search-spec =

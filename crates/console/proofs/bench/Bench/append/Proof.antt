@@ -3,8 +3,8 @@
 use Rattle.std.proofs.Common.{◌≡◌, ℕ, ◌+◌, ◌-◌, ◌≤◌, length, ap, ◌∙◌, arith, rules}
 use Rattle.octets.specs.Bytes.{part}
 use Rattle.octets.proofs.PartLaws.{part_length}
-use Rattle.console.specs.Bench.{withFilled}
-use Rattle.console.proofs.BenchLaws.{filled-over, filled-full, filled-fits, line-short, line-fits}
+use Rattle.console.specs.Bench.{with_filled}
+use Rattle.console.proofs.BenchLaws.{filled-over, filled-full, filled_fits, line_short, line_fits}
 use Rattle.console.proofs.bench.Bench.append.Statement.{statement}
 use Rattle.console.proofs.bench.Bench.append.Tie as tie
 
@@ -19,7 +19,7 @@ returns c =
     let k = a.«end» - a.from in
     let more = part a.chunk.now a.from k in
     let long : length more ≡ k = part_length a.chunk.now a.from k (omega (arith, start.requires.0, start.requires.1)) in
-    (ap (withFilled b) (filled-over (length a.line.now) b.filled k c.if1.true), line-short a.line.now b.filled more (omega (arith, c.if1.true)))
+    (ap (with_filled b) (filled-over (length a.line.now) b.filled k c.if1.true), line_short a.line.now b.filled more (omega (arith, c.if1.true)))
 
 add-self : tie.Need-overflow-add-self
 add-self c = search rules
@@ -32,7 +32,7 @@ returns-2 c =
     let k = a.«end» - a.from in
     let more = part a.chunk.now a.from k in
     let long : length more ≡ k = part_length a.chunk.now a.from k (omega (arith, start.requires.0, start.requires.1)) in
-    (ap (withFilled b) (filled-full (length a.line.now) b.filled k c.before.if1.false c.if2.true), line-short a.line.now b.filled more (omega (arith, long, c.before.if1.false, c.if2.true)))
+    (ap (with_filled b) (filled-full (length a.line.now) b.filled k c.before.if1.false c.if2.true), line_short a.line.now b.filled more (omega (arith, long, c.before.if1.false, c.if2.true)))
 
 copy-requires : tie.Need-copy-requires
 copy-requires c κs = search rules
@@ -54,7 +54,7 @@ returns-3 c =
     let more = part a.chunk.now a.from k in
     let long : length more ≡ k = part_length a.chunk.now a.from k (omega (arith, start.requires.0, start.requires.1)) in
     let h : b.filled + k ≤ length a.line.now = omega (arith, full.before.if1.false, full.if2.false) in
-    (ap (withFilled b) (filled-fits (length a.line.now) b.filled k h), copy.copy.ensures ∙ line-fits a.line.now b.filled more (omega (arith, long, h)))
+    (ap (with_filled b) (filled_fits (length a.line.now) b.filled k h), copy.copy.ensures ∙ line_fits a.line.now b.filled more (omega (arith, long, h)))
 
 pub append-spec : {M : Type 1} → statement M
 append-spec =

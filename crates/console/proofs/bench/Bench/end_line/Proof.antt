@@ -4,16 +4,16 @@ use Rattle.std.proofs.Common.{ℕ, ◌<◌, ◌≤◌, Bool, cond, List, length,
 use mathlib.Core.Path.{subst⁻¹}
 use Rattle.lines.specs.Orders.{order_of}
 use Rattle.console.specs.declared.bench.Bench.{Bench}
-use Rattle.console.specs.Bench.{Held, held_at, obeyed, lineDone, nextLine, Leaves}
+use Rattle.console.specs.Bench.{Held, held_at, obeyed, line_done, next_line, Leaves}
 use Rattle.console.proofs.bench.Bench.end_line.Statement.{statement}
 use Rattle.console.proofs.bench.Bench.end_line.Tie as tie
 
 module _ (text : List ℕ) (n : ℕ) (h : Held) (b : Bench) where
-  not-read : {r : Bench} {t k : List ℕ} → length text < n → Leaves h b r t k → Leaves (lineDone text n h) b r t k
+  not-read : {r : Bench} {t k : List ℕ} → length text < n → Leaves h b r t k → Leaves (line_done text n h) b r t k
   not-read {r} {t} {k} l d =
       subst⁻¹ (λ (x : Bool). Leaves (cond x h (obeyed (order_of (take n text)) (take n text) h)) b r t k) (lt-ltb (length text) n l) d
 
-  was_read : {r : Bench} {t k : List ℕ} → n ≤ length text → Leaves (obeyed (order_of (take n text)) (take n text) h) b r t k → Leaves (lineDone text n h) b r t k
+  was_read : {r : Bench} {t k : List ℕ} → n ≤ length text → Leaves (obeyed (order_of (take n text)) (take n text) h) b r t k → Leaves (line_done text n h) b r t k
   was_read {r} {t} {k} l d =
       subst⁻¹ (λ (x : Bool). Leaves (cond x h (obeyed (order_of (take n text)) (take n text) h)) b r t k) (le-ltb (length text) n l) d
 
@@ -27,8 +27,8 @@ returns : tie.Need-returns
 returns c =
     let if1 = c.before.before in
     let a = if1.before.before.before.before.args in
-    not-read a.text.now a.self.filled (held_at a.self a.store.now a.keys.now) (nextLine a.self) if1.if1.true
-    (record { bench-is = c.next-line.ensures; store_is = refl; keys-are = refl })
+    not-read a.text.now a.self.filled (held_at a.self a.store.now a.keys.now) (next_line a.self) if1.if1.true
+    (record { bench_is = c.next-line.ensures; store_is = refl; keys_are = refl })
 
 slice-aggregate-obey : tie.Need-slice-aggregate-obey
 slice-aggregate-obey c =
@@ -53,8 +53,8 @@ returns-2 c =
     let if1 = obey.before.before.before.before in
     let a = if1.before.before.before.before.args in
     let l = obey.obey.ensures in
-    was_read a.text.now a.self.filled (held_at a.self a.store.now a.keys.now) (nextLine a.self) if1.if1.false
-    (record { bench-is = c.next-line2.ensures ∙ ap nextLine l.bench-is; store_is = l.store_is; keys-are = l.keys-are })
+    was_read a.text.now a.self.filled (held_at a.self a.store.now a.keys.now) (next_line a.self) if1.if1.false
+    (record { bench_is = c.next-line2.ensures ∙ ap next_line l.bench_is; store_is = l.store_is; keys_are = l.keys_are })
 
 pub end-line-spec : {M : Type 1} → statement M
 end-line-spec =

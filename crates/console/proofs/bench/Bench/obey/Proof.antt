@@ -9,9 +9,9 @@ use Rattle.lines.specs.declared.orders.Order.{Order}
 use Rattle.lines.specs.declared.orders.Order.TheVariants as order
 use Rattle.console.specs.declared.bench.Bench.{Bench}
 use Rattle.console.specs.declared.connections.Sides.{Sides}
-use Rattle.console.specs.Connections.{sidesBy}
-use Rattle.console.specs.Units.{soundKmac, keyedBy, keysBy}
-use Rattle.console.specs.Bench.{storeOf, held_at, withStore, obeyed, Leaves}
+use Rattle.console.specs.Connections.{sides_by}
+use Rattle.console.specs.Units.{sound_kmac, keyed_by, keys_by}
+use Rattle.console.specs.Bench.{store_of, held_at, with_store, obeyed, Leaves}
 use Rattle.console.proofs.bench.Bench.obey.Statement.{statement}
 use Rattle.console.proofs.bench.Bench.obey.Tie as tie
 
@@ -20,9 +20,9 @@ abbrev changed : Bench → Session → Bool → Bool → Sides → Bench
 changed b e large held sides = record { session = e; large = large; held = held; sides = sides; line = b.line; filled = b.filled; more = b.more }
 
 -- another edition and its store, and all else as it was
-with-store : (b : Bench) (s k t v : List ℕ) {l m : Bool} → l ≡ m → storeOf l t ≡ v → Leaves (withStore m v (held_at b s k)) b (changed b b.session l b.held b.sides) t k
+with-store : (b : Bench) (s k t v : List ℕ) {l m : Bool} → l ≡ m → store_of l t ≡ v → Leaves (with_store m v (held_at b s k)) b (changed b b.session l b.held b.sides) t k
 with-store b s k t v e h =
-    record { bench-is = ap (λ (x : Bool). changed b b.session x b.held b.sides) e; store_is = ap (λ (x : Bool). storeOf x t) (sym e) ∙ h; keys-are = refl }
+    record { bench_is = ap (λ (x : Bool). changed b b.session x b.held b.sides) e; store_is = ap (λ (x : Bool). store_of x t) (sym e) ∙ h; keys_are = refl }
 
 module _ (k : tie.After-read) where
   -- what is left where the line asks the order o
@@ -38,7 +38,7 @@ module _ (k : tie.After-read) where
   kept :
       let a = k.before.before.before.before.args in
       Leaves (held_at a.self a.store.now a.keys.now) a.self a.self a.store.now a.keys.now
-  kept = record { bench-is = refl; store_is = refl; keys-are = refl }
+  kept = record { bench_is = refl; store_is = refl; keys_are = refl }
 
 read-requires : tie.Need-read-requires
 read-requires c κs = search rules
@@ -171,7 +171,7 @@ returns-3 c =
     let told = c.before.before.own.given in
     let b = read.before.before.before.before.args.self in
     left read (order.Begin told.0.0 told.0.1.0 told.0.1.1.0) _ _ _ told.1
-    (record { bench-is = ap (λ (e : Session). changed b e b.large b.held b.sides) c.begin.ensures; store_is = refl; keys-are = refl })
+    (record { bench_is = ap (λ (e : Session). changed b e b.large b.held b.sides) c.begin.ensures; store_is = refl; keys_are = refl })
 
 same_length : tie.Need-same-length
 same_length c = search rules
@@ -182,7 +182,7 @@ returns-4 c =
     let read = receive.before.before.before.before in
     let b = read.before.before.before.before.args.self in
     left read order.Message _ _ _ receive.before.before.enum-told3.given.1
-    (record { bench-is = ap (λ (e : Session). changed b e b.large b.held b.sides) receive.receive.ensures.0; store_is = receive.receive.ensures.1; keys-are = refl })
+    (record { bench_is = ap (λ (e : Session). changed b e b.large b.held b.sides) receive.receive.ensures.0; store_is = receive.receive.ensures.1; keys_are = refl })
 
 same-length-2 : tie.Need-same-length-2
 same-length-2 c = search rules
@@ -206,14 +206,14 @@ returns-6 c =
     let read = of.before.before.before.before.before in
     let a = read.before.before.before.before.args in
     let b = a.self in
-    let s : of.store-of2.result.now ≡ storeOf b.large a.store.now = of.store-of2.ensures in
+    let s : of.store-of2.result.now ≡ store_of b.large a.store.now = of.store-of2.ensures in
     left read (order.Keys told.0.0 told.0.1.0 told.0.1.1.0) _ _ _ told.1
     (record {
-      bench-is =
+      bench_is =
           ap (λ (x : Bool). changed b b.session b.large x b.sides)
-          (hold.hold.ensures.0 ∙ ap (λ (x : List ℕ). keyedBy (derived (soundKmac x told.0.0)) b.held) s);
+          (hold.hold.ensures.0 ∙ ap (λ (x : List ℕ). keyed_by (derived (sound_kmac x told.0.0)) b.held) s);
       store_is = refl;
-      keys-are = hold.hold.ensures.1 ∙ ap (λ (x : List ℕ). keysBy (soundKmac x told.0.0) told.0.1.0 told.0.1.1.0 a.keys.now) s;
+      keys_are = hold.hold.ensures.1 ∙ ap (λ (x : List ℕ). keys_by (sound_kmac x told.0.0) told.0.1.0 told.0.1.1.0 a.keys.now) s;
     })
 
 same-length-5 : tie.Need-same-length-5
@@ -244,11 +244,11 @@ returns-9 c =
     let b = a.self in
     left read (order.Connection told.0.0 told.0.1.0) _ _ _ told.1
     (record {
-      bench-is =
+      bench_is =
           ap (λ (x : Sides). changed b b.session b.large b.held x)
-          (c.obey.ensures ∙ ap (λ (x : List ℕ). sidesBy told.0.0 told.0.1.0 a.text.now x b.sides) of.store-of3.ensures);
+          (c.obey.ensures ∙ ap (λ (x : List ℕ). sides_by told.0.0 told.0.1.0 a.text.now x b.sides) of.store-of3.ensures);
       store_is = refl;
-      keys-are = refl;
+      keys_are = refl;
     })
 
 same-length-8 : tie.Need-same-length-8
@@ -269,7 +269,7 @@ returns-11 : tie.Need-returns-11
 returns-11 c =
     let choose = c.before.before in
     let told = choose.before.before.before.large.given in
-    left choose.before.before.before.before.before (order.Edition told.0.0) _ _ _ told.1 (record { bench-is = refl; store_is = choose.choose.ensures; keys-are = refl })
+    left choose.before.before.before.before.before (order.Edition told.0.0) _ _ _ told.1 (record { bench_is = refl; store_is = choose.choose.ensures; keys_are = refl })
 
 same-length-10 : tie.Need-same-length-10
 same-length-10 c = search rules
@@ -295,7 +295,7 @@ same-length-12 c = search rules
 returns-14 : tie.Need-returns-14
 returns-14 c =
     let empty = c.before.before in
-    left empty.before.before.before.before order.Empty _ _ _ empty.before.before.enum-told7.given.1 (record { bench-is = refl; store_is = empty.empty.ensures; keys-are = refl })
+    left empty.before.before.before.before order.Empty _ _ _ empty.before.before.enum-told7.given.1 (record { bench_is = refl; store_is = empty.empty.ensures; keys_are = refl })
 
 returns-15 : tie.Need-returns-15
 returns-15 c =
