@@ -1,4 +1,6 @@
 // Session keys, the MAC, and data units built and checked (SUBSET-037-2, 6.2).
+#![tactic(auto)]
+
 ghost use Rattle.std.specs.Prelude.{◌≡◌};
 ghost use Rattle.octets.specs.Bytes.{same};
 ghost use Rattle.authentication.specs.Mac.{mac};

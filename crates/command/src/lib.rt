@@ -1,4 +1,6 @@
 // The work of a command: its requests in order, each on the store left by the one before (document 01, "What each request does").
+#![tactic(auto)]
+
 ghost use Rattle.std.specs.Prelude.{◌≡◌, true, ◌+◌, ◌≤◌, length};
 ghost use Rattle.store.specs.Layout.{Bounded};
 ghost use Rattle.store.specs.Store.{sound};

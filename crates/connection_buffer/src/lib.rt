@@ -1,5 +1,7 @@
 // Connection set-up on buffers as a host lends them: a connection of 64 bytes, 8 bytes for the events of a step, and an output buffer.
 // Each call is an event of `setup`, on the connection that the buffer holds.
+#![tactic(auto)]
+
 ghost use Rattle.std.specs.Prelude.{◌≡◌};
 ghost use Rattle.octets.specs.Bytes.{nonzero};
 ghost use Rattle.refusal.specs.House.{gives};

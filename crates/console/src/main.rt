@@ -1,4 +1,6 @@
 // Reads lines from standard input and writes what the module answers to each; help lists them.
+#![tactic(auto)]
+
 ghost use Rattle.std.specs.Prelude.{◌≡◌, ◌≤◌, length};
 
 use crate::bench::Bench;

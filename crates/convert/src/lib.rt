@@ -1,4 +1,6 @@
 // A store of one edition made one of the other, between two lent buffers (change request 6).
+#![tactic(auto)]
+
 ghost use Rattle.std.specs.Prelude.{◌≡◌, true, eqb, length};
 ghost use Rattle.store.specs.Layout.{total, Bounded, edition1, edition2};
 ghost use Rattle.store.specs.Store.{entries, encode, sound};

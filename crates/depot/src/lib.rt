@@ -1,4 +1,6 @@
 // What the depot report counts (change request 14): the keys of a store by their periods at a moment, its peers, and the sums over many stores.
+#![tactic(auto)]
+
 mod periods;
 mod sums;
 

@@ -1,4 +1,6 @@
 // The Data Encryption Standard, FIPS 46-3, and its inverse, as the standard prints them: every permutation and the boxes by their tables.
+#![tactic(auto)]
+
 ghost use Rattle.std.specs.Prelude.{◌≡◌, true, false};
 ghost use Rattle.des.specs.Bits.{bits, bits_of_bytes, bytes_of_bits};
 ghost use Rattle.des.specs.Des.{cipher, des_encipher, des_decipher};

@@ -1,4 +1,6 @@
 // DES for many blocks: the boxes, P and E from one joined table, permutations by exchanges and shifts. `des` has the standard's own form.
+#![tactic(auto)]
+
 ghost use Rattle.std.specs.Prelude.{◌≡◌};
 ghost use Rattle.des.specs.Bits.{bits};
 ghost use Rattle.des.specs.Words.{Keys};

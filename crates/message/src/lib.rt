@@ -1,4 +1,6 @@
 // SUBSET-137 on the wire: message types, the body test, and the messages that are written (000, 5.3).
+#![tactic(auto)]
+
 ghost use Rattle.std.specs.Prelude.{◌≡◌};
 ghost use Rattle.message.specs.Header.{kind_of};
 

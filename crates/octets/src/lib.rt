@@ -1,4 +1,6 @@
 // Leaf operations on lent bytes. Every other crate reads and writes bytes through these.
+#![tactic(auto)]
+
 ghost use Rattle.std.specs.Prelude.{◌≡◌, ◌+◌, ◌≤◌, ◌<◌, length, replicate};
 ghost use Rattle.octets.specs.Bytes.{between as isBetween, get16, get32, number, be16, be32, bytes, part, splice, closed, opened, all_zero};
 

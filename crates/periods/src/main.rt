@@ -1,4 +1,6 @@
 // The periods of a store's keys: reads a store from standard input, and writes a line for each key, without its KMAC.
+#![tactic(auto)]
+
 ghost use Rattle.std.specs.Prelude.{◌≡◌, true};
 ghost use Rattle.runs.specs.Alike.{is_sound};
 

@@ -1,4 +1,6 @@
 // The records of a store as numbers. No part of a KMAC is among them, and what is shown is made of them alone.
+#![tactic(auto)]
+
 ghost use Rattle.std.specs.Prelude.{◌≡◌, ◌+◌, ◌*◌, ◌≤◌, ◌<◌, length};
 ghost use Rattle.octets.specs.Bytes.{get16};
 ghost use Rattle.store.specs.Layout.{record_at};

@@ -1,4 +1,6 @@
 // The refusals of the house (document 01, "Refusals of the house"; H14 is of document 02, change request 6).
+#![tactic(auto)]
+
 ghost use Rattle.std.specs.Prelude.{◌≡◌};
 ghost use Rattle.refusal.specs.House.{house, house_number};
 ghost use Rattle.refusal.specs.Code.{code};

@@ -1,4 +1,6 @@
 // The depot report: reads a moment and names of files from standard input, and writes a line of counts for each store and one of sums.
+#![tactic(auto)]
+
 ghost use Rattle.std.specs.Prelude.{◌≡◌, ◌+◌, ◌≤◌, length};
 ghost use Rattle.sheet.specs.Row.{longest};
 

@@ -1,5 +1,7 @@
 // The requests of document 01, "What each request does", one function for each: it works in place on a sound store, answers the RESULT
 // and leaves the store of the new entries.
+#![tactic(auto)]
+
 mod append;
 mod held;
 mod peers;

@@ -1,5 +1,7 @@
 // The self-test at power-on: the two tables of the joined rounds against the printed ones, DES by the printed tables against the joined rounds, Annex B of SUBSET-037-2, the MAC and the session keys.
 // It is proved to answer true. Where it answers false, the machine that runs it is not the one that the proofs are about: memory, processor or compiler back end.
+#![tactic(auto)]
+
 ghost use Rattle.std.specs.Prelude.{◌≡◌, true};
 ghost use Rattle.fast_des.specs.Joined.{joined, pc2_groups};
 

@@ -1,4 +1,6 @@
 // Sessions with the key centre (document 01, "Sessions"): begin and receive.
+#![tactic(auto)]
+
 ghost use Rattle.std.specs.Prelude.{◌≡◌, ◌≤◌, true, length};
 ghost use Rattle.store.specs.Layout.{total, Bounded};
 ghost use Rattle.store.specs.Store.{sound};

@@ -1,4 +1,6 @@
 // Sessions on a buffer as a host lends it: a session of 32 bytes. Each call is the one of `session`, on the session that the buffer holds.
+#![tactic(auto)]
+
 ghost use Rattle.std.specs.Prelude.{◌≡◌};
 ghost use Rattle.refusal.specs.Code.{code};
 ghost use Rattle.session.specs.Sessions.{begin, begin_output};

@@ -1,4 +1,6 @@
 // The lines of the depot report (change request 14): what is written of each line of the input, and at its end.
+#![tactic(auto)]
+
 pub mod input;
 mod row;
 

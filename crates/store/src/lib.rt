@@ -1,4 +1,6 @@
 // The lent key store (document 01, "The key store" and "Key search"): whether it is sound, the search for a key, and the empty store.
+#![tactic(auto)]
+
 pub mod editions;
 pub mod field;
 pub mod search;

@@ -1,4 +1,6 @@
 // Table 20 of connection set-up (SUBSET-037-2, 6.2.6): connections, states, outgoing events, what a step hands back, and the search where set-up starts.
+#![tactic(auto)]
+
 ghost use Rattle.std.specs.Prelude.{◌≡◌};
 ghost use Rattle.table.specs.Steps.{idle};
 

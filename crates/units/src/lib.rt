@@ -1,4 +1,6 @@
 // The units of connection set-up (SUBSET-037-2, 6.2.5): AU1, AU2, AU3, AR and DI, written and judged.
+#![tactic(auto)]
+
 ghost use Rattle.std.specs.Prelude.{◌≡◌, [], ◌∷◌, ◌++◌, ◌+◌, ◌/◌, ◌%◌, ◌≤◌, eqb, length, take};
 ghost use Rattle.octets.specs.Bytes.{splice};
 ghost use Rattle.authentication.specs.Mac.{mac};

@@ -1,4 +1,6 @@
 // The worked numbers of document 01 that concern sessions and the store, with those of change requests 3, 4, 5 and 7, a line for each case. Every store is built through messages.
+#![tactic(auto)]
+
 mod centre;
 mod larger;
 mod latest;
