@@ -22,7 +22,7 @@ pub fn rights(a: u64, b: u64) -> u64
 }
 
 // One word for each key.
-#[derive(Drop)]
+#[derive(Clone, Copy)]
 struct Words {
     one: u64,
     two: u64,

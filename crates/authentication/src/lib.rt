@@ -28,14 +28,14 @@ pub const DATA_MOST: usize = 1023;
 // ---- session keys
 
 // What session_keys answers.
-#[derive(Drop)]
+#[derive(Clone, Copy)]
 pub enum Derived {
     Made,
     Refused(Refusal),
 }
 
 // The answer, and the three keys: zeros where it is refused.
-#[derive(Drop)]
+#[derive(Clone, Copy)]
 pub struct SessionKeys {
     pub answer: Derived,
     pub key: [u8; 24],
@@ -62,7 +62,7 @@ pub fn session_keys(kmac: &[u8], ra: [u8; 8], rb: [u8; 8]) -> SessionKeys
 // ---- data units
 
 // What build answers: the length of the unit written.
-#[derive(Drop)]
+#[derive(Clone, Copy)]
 pub enum Built {
     Written(usize),
     Refused(Refusal),
@@ -92,7 +92,7 @@ pub fn build(
 }
 
 // What check answers: the length of the user data.
-#[derive(Drop)]
+#[derive(Clone, Copy)]
 pub enum Checked {
     Accepted(usize),
     Refused(Refusal),

@@ -16,7 +16,7 @@ use crate::units::{build, check, hold};
 use lines::orders::{Order, read};
 use session::Session;
 
-#[derive(Drop)]
+#[derive(Clone, Copy)]
 pub struct Bench {
     pub session: Session,
     // Whether the store that is held has the length of edition 2.

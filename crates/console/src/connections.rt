@@ -11,13 +11,13 @@ use lines::words::word;
 use table::{Connection, Step};
 
 // A connection, and the identity of its side, which is kept when it ends.
-#[derive(Drop)]
+#[derive(Clone, Copy)]
 pub struct Side {
     pub own: u32,
     pub connection: Connection,
 }
 
-#[derive(Drop)]
+#[derive(Clone, Copy)]
 pub struct Sides {
     pub a: Side,
     pub b: Side,

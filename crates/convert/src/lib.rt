@@ -14,7 +14,7 @@ use store::sound::{counts_ok, is_sound};
 use store::{KEYS_AT, Limits, PEER, RECORD, write_empty};
 
 // What the two calls answer.
-#[derive(Drop)]
+#[derive(Clone, Copy)]
 pub enum Converted {
     Done,
     Refused(Refusal),

@@ -16,7 +16,7 @@ use store::{Edition, Limits};
 use sums::{have_room, plus};
 
 // Where a key's period lies at a moment.
-#[derive(Drop)]
+#[derive(Clone, Copy)]
 pub enum Class {
     Fit,
     Ended,
@@ -25,7 +25,7 @@ pub enum Class {
 }
 
 // How many keys are in each class.
-#[derive(Drop)]
+#[derive(Clone, Copy)]
 pub struct Classes {
     pub fit: u32,
     pub ended: u32,
@@ -34,7 +34,7 @@ pub struct Classes {
 }
 
 // The six numbers of a line of the report.
-#[derive(Drop)]
+#[derive(Clone, Copy)]
 pub struct Tally {
     pub held: u32,
     pub fit: u32,
@@ -45,14 +45,14 @@ pub struct Tally {
 }
 
 // What counts answers.
-#[derive(Drop)]
+#[derive(Clone, Copy)]
 pub enum Counted {
     Counts(Tally),
     Bad,
 }
 
 // What added answers.
-#[derive(Drop)]
+#[derive(Clone, Copy)]
 pub enum Summed {
     Sums(Tally),
     TooLarge,

@@ -19,14 +19,14 @@ mod shift;
 mod tables;
 
 // A block between IP and its inverse: its halves, each expanded to 48 bits.
-#[derive(Drop)]
+#[derive(Clone, Copy)]
 pub struct Halves {
     pub left: u64,
     pub right: u64,
 }
 
 // Three blocks side by side.
-#[derive(Drop)]
+#[derive(Clone, Copy)]
 pub struct Three {
     pub one: Halves,
     pub two: Halves,

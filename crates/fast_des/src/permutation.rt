@@ -90,7 +90,7 @@ pub fn choice1(x: u64) -> u64
 }
 
 // The keys of four iterations: permuted choice 2 of one word shifted by 0, 4, 8 and 12 places.
-#[derive(Drop)]
+#[derive(Clone, Copy)]
 pub struct FourKeys {
     pub none: u64,
     pub four: u64,

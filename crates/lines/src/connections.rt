@@ -7,7 +7,7 @@ use crate::fields::{Fault, Field, bytes_field, decimal_field, hex_field};
 use crate::words::{same, word};
 
 // The commands for a connection.
-#[derive(Drop)]
+#[derive(Clone, Copy)]
 pub enum Verb {
     Connection,
     Call,
@@ -23,7 +23,7 @@ pub enum Verb {
 }
 
 // An event with its numbers. The bytes of units and of user data stay in the line.
-#[derive(Drop)]
+#[derive(Clone, Copy)]
 pub enum Event {
     // The peer, T and RB.
     Call(u32, u32, u64),
@@ -42,14 +42,14 @@ pub enum Event {
 }
 
 // What is asked of a connection: to be the idle one, with this own identity, or an event.
-#[derive(Drop)]
+#[derive(Clone, Copy)]
 pub enum Asked {
     Idle(u32),
     Event(Event),
 }
 
 // The fields behind a connection's name: what is asked, or why they are not read.
-#[derive(Drop)]
+#[derive(Clone, Copy)]
 pub enum Told {
     Is(Asked),
     Bad(Fault),

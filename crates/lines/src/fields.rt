@@ -7,7 +7,7 @@ use crate::digits::{are_digits, number};
 use crate::words::word;
 
 // Why a line is not read.
-#[derive(Drop)]
+#[derive(Clone, Copy)]
 pub enum Fault {
     TooFewWords,
     TooManyWords,
@@ -20,7 +20,7 @@ pub enum Fault {
 }
 
 // A field of a line: its number, or why it is not read.
-#[derive(Drop)]
+#[derive(Clone, Copy)]
 pub enum Field {
     Value(u64),
     Bad(Fault),

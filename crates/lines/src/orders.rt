@@ -7,7 +7,7 @@ use crate::connections::{Asked, Told, Verb, fields_of, name_field, verb_fields};
 use crate::fields::{Fault, Field, bytes_field, decimal_field, hex_field};
 use crate::words::{same, word};
 
-#[derive(Drop)]
+#[derive(Clone, Copy)]
 pub enum Command {
     Begin,
     Message,
@@ -25,14 +25,14 @@ pub enum Command {
 }
 
 // The command that a word names.
-#[derive(Drop)]
+#[derive(Clone, Copy)]
 pub enum Named {
     Is(Command),
     Unknown,
 }
 
 // A line that is read, with its numbers. The bytes of a message, of user data and of a unit stay in the line.
-#[derive(Drop)]
+#[derive(Clone, Copy)]
 pub enum Order {
     Nothing,
     Note,
@@ -56,7 +56,7 @@ pub enum Order {
 }
 
 // The fields of a unit before its bytes.
-#[derive(Drop)]
+#[derive(Clone, Copy)]
 pub enum UnitField {
     Value(u32, bool),
     Bad(Fault),

@@ -4,7 +4,7 @@ ghost use Rattle.octets.specs.Bytes.{same as isSame};
 ghost use Rattle.lines.specs.Words.{is_blank, in_class, first_from, First, word as word_of};
 
 // What a search through a text stops at: a blank is a space, a tab or a carriage return, and a letter any other byte.
-#[derive(Drop)]
+#[derive(Clone, Copy)]
 pub enum Class {
     LineEnd,
     Blank,

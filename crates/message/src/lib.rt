@@ -31,7 +31,7 @@ pub const MESSAGE_MOST: usize = 5000;
 // ---- message types
 
 // The commands with a list of requests.
-#[derive(Drop)]
+#[derive(Clone, Copy)]
 pub enum Command {
     Adds,
     Deletes,
@@ -40,14 +40,14 @@ pub enum Command {
 }
 
 // What a message of one of the six known types asks.
-#[derive(Drop)]
+#[derive(Clone, Copy)]
 pub enum Task {
     Requests(Command),
     DeleteAll,
     EndOfUpdate,
 }
 
-#[derive(Drop)]
+#[derive(Clone, Copy)]
 pub enum Kind {
     Asks(Task),
     SessionInit,
@@ -55,7 +55,7 @@ pub enum Kind {
 }
 
 // The size of a request, or that no whole request with right fields stands at a place.
-#[derive(Drop)]
+#[derive(Clone, Copy)]
 pub enum Sized {
     Size(usize),
     Bad,

@@ -17,7 +17,7 @@ use store::{Edition, KEYS_AT, PEER, RECORD};
 const PEERS_OFFSET: usize = 8;
 
 // A record without its KMAC.
-#[derive(Drop)]
+#[derive(Clone, Copy)]
 pub struct Record {
     pub issuer: u32,
     pub serial: u32,

@@ -5,7 +5,7 @@ ghost use Rattle.std.specs.Prelude.{◌≡◌};
 ghost use Rattle.refusal.specs.House.{house, house_number};
 ghost use Rattle.refusal.specs.Code.{code};
 
-#[derive(Drop)]
+#[derive(Clone, Copy)]
 pub enum Refusal {
     // H1: the store buffer has the length of no edition, neither 3,852 nor 38,012 bytes; in a conversion, not that of its side's edition.
     StoreLength,

@@ -10,7 +10,7 @@ use sheet::{ROW, Report, asks_file, put_last, put_line};
 use store::editions::LENGTH_2;
 
 // How far the report is.
-#[derive(Drop)]
+#[derive(Clone, Copy)]
 struct Progress {
     report: Report,
     // How many bytes are held of a line that has not ended, and how many of the output wait to be written.

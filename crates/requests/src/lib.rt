@@ -24,7 +24,7 @@ use store::sound::all_odd;
 use store::{KEYS_AT, Limits, RECORD};
 
 // A key to be added: its fields, and where in the message its KMAC and its peers stand.
-#[derive(Drop)]
+#[derive(Clone, Copy)]
 pub struct Addition {
     pub issuer: u32,
     pub serial: u32,
@@ -37,7 +37,7 @@ pub struct Addition {
 }
 
 // The counts of a store, and the first peer index and peer count of one of its records.
-#[derive(Drop)]
+#[derive(Clone, Copy)]
 pub struct Counts {
     pub keys: usize,
     pub peers: usize,

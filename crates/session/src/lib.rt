@@ -22,7 +22,7 @@ use store::{Edition, Limits, write_empty};
 
 mod header;
 
-#[derive(Drop)]
+#[derive(Clone, Copy)]
 pub struct Session {
     pub state: u8,
     pub own: u32,
@@ -35,14 +35,14 @@ pub struct Session {
 }
 
 // What begin answers: the session and the length written.
-#[derive(Drop)]
+#[derive(Clone, Copy)]
 pub enum Begun {
     Made(Session, usize),
     Refused(Refusal),
 }
 
 // What receive answers: the length of the reply, that the session is opened, or that it is ended.
-#[derive(Drop)]
+#[derive(Clone, Copy)]
 pub enum Received {
     Reply(usize),
     Opened,
@@ -51,7 +51,7 @@ pub enum Received {
 }
 
 // The answer to a message, and the session for the next.
-#[derive(Drop)]
+#[derive(Clone, Copy)]
 pub struct Turn {
     pub answer: Received,
     pub session: Session,

@@ -6,14 +6,14 @@ use lines::digits::{are_digits, least, number};
 use lines::words::{Class, first};
 
 // What the first line says.
-#[derive(Drop)]
+#[derive(Clone, Copy)]
 pub enum Moment {
     At(u32),
     Bad,
 }
 
 // Where a chunk is read on, how much of the line is held, and whether the line has ended.
-#[derive(Drop)]
+#[derive(Clone, Copy)]
 pub struct Cut {
     pub at: usize,
     pub filled: usize,

@@ -16,7 +16,7 @@ use input::{Moment, is_name, read_moment};
 use row::{put_bad, put_row, put_text};
 
 // The report so far: the first line comes next; or names do, at T and with these sums; or nothing more is written.
-#[derive(Drop)]
+#[derive(Clone, Copy)]
 pub enum Report {
     First,
     Names(u32, Tally),
@@ -24,7 +24,7 @@ pub enum Report {
 }
 
 // How many bytes are written, and the report then.
-#[derive(Drop)]
+#[derive(Clone, Copy)]
 pub struct Written {
     pub count: usize,
     pub report: Report,

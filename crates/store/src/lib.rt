@@ -20,7 +20,7 @@ use search::chosen;
 use sound::is_sound;
 
 // The number and the limits of an edition of the store.
-#[derive(Drop)]
+#[derive(Clone, Copy)]
 pub struct Limits {
     pub edition: usize,
     pub keys: usize,
@@ -28,28 +28,28 @@ pub struct Limits {
 }
 
 // The edition that a buffer's length picks.
-#[derive(Drop)]
+#[derive(Clone, Copy)]
 pub enum Edition {
     Known(Limits),
     Unknown,
 }
 
 // What find answers: the record's place, the first being 1, and its end.
-#[derive(Drop)]
+#[derive(Clone, Copy)]
 pub enum Found {
     At(usize, u32),
     Refused(Refusal),
 }
 
 // The place of the record that is taken, counted from 0, and its end; where none is, the number of records, and 0.
-#[derive(Drop)]
+#[derive(Clone, Copy)]
 pub struct Choice {
     pub place: usize,
     pub end: u32,
 }
 
 // What empty answers.
-#[derive(Drop)]
+#[derive(Clone, Copy)]
 pub enum Emptied {
     Done,
     Refused(Refusal),

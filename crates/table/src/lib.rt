@@ -11,7 +11,7 @@ pub mod search;
 pub mod states;
 
 // A connection. The key is the KMAC in WFTC, and the session key from then on; all is zero in IDLE.
-#[derive(Drop)]
+#[derive(Clone, Copy)]
 pub struct Connection {
     pub state: u8,
     pub responder: bool,
@@ -23,7 +23,7 @@ pub struct Connection {
 }
 
 // The states, as Table 14 names them.
-#[derive(Drop)]
+#[derive(Clone, Copy)]
 pub enum State {
     IDLE,
     WFTC,
@@ -34,7 +34,7 @@ pub enum State {
 }
 
 // Which unit a T-DATA.indication brought.
-#[derive(Drop)]
+#[derive(Clone, Copy)]
 pub enum Kind {
     Au3,
     Ar,
@@ -49,7 +49,7 @@ pub const AR_NUMBER: u8 = 2;
 pub const DT_NUMBER: u8 = 3;
 
 // The outgoing event to the user of the safe service: user data with their length, a release or a report with reason and sub-reason.
-#[derive(Drop)]
+#[derive(Clone, Copy)]
 pub enum ToUser {
     Nothing,
     ConnectIndication,
@@ -60,7 +60,7 @@ pub enum ToUser {
 }
 
 // The outgoing event to the transport, with its unit (Table 16).
-#[derive(Drop)]
+#[derive(Clone, Copy)]
 pub enum ToTransport {
     Quiet,
     TConnReq,
@@ -73,7 +73,7 @@ pub enum ToTransport {
 }
 
 // What becomes of the timer T estab: nothing, a5, a6, a19 (Table 19).
-#[derive(Drop)]
+#[derive(Clone, Copy)]
 pub enum Timer {
     Keep,
     Set,
@@ -82,7 +82,7 @@ pub enum Timer {
 }
 
 // What goes out, in the order of Table 20, and how many bytes of the output buffer the unit has.
-#[derive(Drop)]
+#[derive(Clone, Copy)]
 pub struct Actions {
     pub user: ToUser,
     pub transport: ToTransport,
@@ -90,14 +90,14 @@ pub struct Actions {
     pub written: usize,
 }
 
-#[derive(Drop)]
+#[derive(Clone, Copy)]
 pub enum Stepped {
     Done(Actions),
     Refused(Refusal),
 }
 
 // The answer to an event, and the connection for the next.
-#[derive(Drop)]
+#[derive(Clone, Copy)]
 pub struct Step {
     pub answer: Stepped,
     pub connection: Connection,

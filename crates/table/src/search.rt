@@ -13,7 +13,7 @@ use units::type_of;
 const TYPE_MOST: u8 = 7;
 
 // What the search answers: the record's place.
-#[derive(Drop)]
+#[derive(Clone, Copy)]
 pub enum Searched {
     At(usize),
     Refused(Refusal),

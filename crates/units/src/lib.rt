@@ -44,14 +44,14 @@ pub const DI_LENGTH: usize = 3;
 const SAF: u8 = 1;
 
 // A reason and a sub-reason.
-#[derive(Drop)]
+#[derive(Clone, Copy)]
 pub struct Code {
     pub reason: u8,
     pub sub: u8,
 }
 
 // What is wrong with a unit: nothing, or a reason and a sub-reason.
-#[derive(Drop)]
+#[derive(Clone, Copy)]
 pub enum Fault {
     Fine,
     Bad(u8, u8),

@@ -13,7 +13,7 @@ const KEY_LENGTH: u8 = 24;
 const KMAC_WORDS: u16 = 6;
 
 // What an add request says of a key; its KMAC is the same four bytes six times.
-#[derive(Drop)]
+#[derive(Clone, Copy)]
 pub struct Key {
     pub recipient: u32,
     pub issuer: u32,
