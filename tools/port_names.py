@@ -102,6 +102,11 @@ def imported(p):
     return names
 
 
+def functions(top):
+    """The functions of the sources below a folder: they keep their names."""
+    return {m[1] for p in walk(top, (".rt",)) for m in re.finditer(r"\bfn (\w+)", read(p))}
+
+
 def snake(word):
     word = re.sub(r"([a-z0-9])([A-Z])", r"\1_\2", word)
     word = re.sub(r"([A-Z]+)([A-Z][a-z])", r"\1_\2", word)
@@ -124,11 +129,6 @@ def table():
     for p in antt:
         if os.path.basename(p) in ("Proof.antt", "Answers.antt", "Invariants.antt"):
             local |= top_level(p)
-    # What the sources declare keeps its name.
-    source = set()
-    for p in walk("crates", (".rt",)):
-        for m in re.finditer(r"\b(?:fn|struct|enum|const|mod|trait|type) (\w+)", read(p)):
-            source.add(m[1])
     fields = set()
     for p in antt:
         fields |= labels(p)
@@ -179,18 +179,42 @@ def quoted(text, new):
     return re.sub(r"`[^`\n]*`", lambda m: turned(m[0], new), text)
 
 
+def aliases():
+    """A module that a file imports under a name of its own is in camel case, as modules are."""
+    for p in walk("crates", (".antt",)):
+        old = t = read(p)
+        for a in re.findall(r"(?m)^use \S+ as ([A-Za-z_-]+)$", t):
+            if a in ("goal", "tie"):
+                continue
+            name = "".join(w[:1].upper() + w[1:] for w in re.split("[-_]", a))
+            if name == a:
+                continue
+            if re.search(r"(?<![\w.\-])%s(?![\w\-])" % name, t.replace(" as " + a, "")):
+                name = "The" + name
+            t = re.sub(r"(?m)^(use \S+ as )%s$" % re.escape(a), lambda m: m[1] + name, t)
+            t = re.sub(r"(?<![\w.\-«])%s(?=\.[A-Za-z«])" % re.escape(a), name, t)
+        if t != old:
+            with open(p, "w", encoding="utf-8") as f:
+                f.write(t)
+
+
 def main(argv):
     new = table()
     for n in sorted(new):
         print(n, new[n])
     if argv == ["--list"]:
         return
-    for p in walk("crates", (".antt", ".rt", ".edit")):
+    every = functions("crates")
+    for p in list(walk("crates", (".antt", ".rt", ".edit"))):
+        crate = os.path.relpath(p, os.path.join(ROOT, "crates")).split(os.sep)[0]
+        kept = functions(os.path.join("crates", crate)) if p.endswith(".antt") else every
+        here = {n: v for n, v in new.items() if n not in kept}
         old = read(p)
-        t = rust(old, new) if p.endswith(".rt") else turned(old, new)
+        t = rust(old, here) if p.endswith(".rt") else turned(old, here)
         if t != old:
             with open(p, "w", encoding="utf-8") as f:
                 f.write(t)
+    aliases()
     pages = [os.path.join(ROOT, "README.md")] + list(walk("docs", (".md",))) + [p for p in walk("tests", ("README.md",))]
     for p in pages:
         old = read(p)

@@ -5,9 +5,9 @@ use Rattle.octets.specs.Bytes.{between, part, splice, same}
 use Rattle.refusal.specs.House.{Answer, house, gives, asks, house_number, unless_refused}
 use Rattle.authentication.specs.Mac.{mac}
 use Rattle.authentication.specs.declared.Checked.{Checked}
-use Rattle.authentication.specs.declared.Checked.TheVariants as checked-as
+use Rattle.authentication.specs.declared.Checked.TheVariants as CheckedAs
 use Rattle.authentication.specs.declared.Built.{Built}
-use Rattle.authentication.specs.declared.Built.TheVariants as built-as
+use Rattle.authentication.specs.declared.Built.TheVariants as BuiltAs
 
 -- ---- the unit
 
@@ -47,8 +47,8 @@ buffer a unit out = unless_refused a (splice out 0 unit) out
 
 -- the answer in the paper's numbers
 abbrev pub built_as : Built → Answer
-built_as (built-as.Written n) = gives n
-built_as (built-as.Refused h) = house (house_number h)
+built_as (BuiltAs.Written n) = gives n
+built_as (BuiltAs.Refused h) = house (house_number h)
 
 pub record Builds (key destination : List ℕ) (direction : Bool) (user out after : List ℕ) (r : Built) : Type 0 where
   pub answer : built_as r ≡ built key user out
@@ -82,8 +82,8 @@ checked unit key destination direction =
 
 -- the answer in the paper's numbers
 abbrev pub checked_as : Checked → Answer
-checked_as (checked-as.Accepted n) = gives n
-checked_as (checked-as.Refused h) = house (house_number h)
+checked_as (CheckedAs.Accepted n) = gives n
+checked_as (CheckedAs.Refused h) = house (house_number h)
 
 -- the user data, the part of the unit after its first byte; none where it is refused
 abbrev pub data_of : Answer → List ℕ → List ℕ

@@ -12,7 +12,7 @@ use Rattle.octets.proofs.SpliceLaws.{splice_front}
 use Rattle.refusal.specs.House.{Answer, house, gives}
 use Rattle.refusal.proofs.Laws.{not-both}
 use Rattle.store.specs.Search.{place_in}
-use Rattle.store.specs.Search as held
+use Rattle.store.specs.Search as Held
 use Rattle.authentication.specs.Keys.{session_keys}
 use Rattle.authentication.specs.Unit.{unit_of, data_of}
 use Rattle.authentication.specs.Claims.{Accepts}
@@ -26,7 +26,7 @@ use Rattle.table.specs.declared.Kind.TheVariants.{Au3, Ar, Dt}
 use Rattle.table.specs.declared.State.{State}
 use Rattle.table.specs.declared.State.TheVariants.{IDLE, WFTC, WFAR, DATA, WFAU3, WFRESP}
 use Rattle.table.specs.declared.ToUser.{ToUser}
-use Rattle.table.specs.declared.ToUser.TheVariants as user
+use Rattle.table.specs.declared.ToUser.TheVariants as User
 use Rattle.table.specs.declared.ToTransport.TheVariants.{Quiet, TConnReq, TConnResp, SendAu3, SendAr, SendDt}
 use Rattle.table.specs.declared.Timer.TheVariants.{Keep}
 use Rattle.table.specs.Table.{SaDataReq, TConnInd, TConnConf, AU3, AR, ok, no, SaConnInd, SaConnConf, to, Square, square_of, a5, a6, table, state_code, state_of, row_in, square}
@@ -61,7 +61,7 @@ performs i c out q n l s e f =
 -- where the search gave a place, both types are at most 7
 types : (store : List ℕ) (own peer t n : ℕ) → found store own peer t ≡ gives n → (type_of own ≤ 7) × (type_of peer ≤ 7)
 unfolding found
-types store own peer t n e = go (leb (type_of own) 7) (leb (type_of peer) 7) refl refl (place_in (held.find store peer t)) e
+types store own peer t n e = go (leb (type_of own) 7) (leb (type_of peer) 7) refl refl (place_in (Held.find store peer t)) e
   where
     go : (x y : Bool) → leb (type_of own) 7 ≡ x → leb (type_of peer) 7 ≡ y → (a : Answer) → if_types (x && y) a ≡ gives n → (type_of own ≤ 7) × (type_of peer ≤ 7)
     go x y p q (house m) e = not-both m n e
@@ -89,7 +89,7 @@ sixth_row = square_of SaConnConf Quiet a6 (to DATA)
 
 -- the KMAC of both, and the two sides with the session key
 abbrev pub kmac_for : Sides → List ℕ
-kmac_for x = held.key x.store_a x.b x.ta
+kmac_for x = Held.key x.store_a x.b x.ta
 
 abbrev pub called_in : State → Sides → Connection
 called_in s x = record { state = state_code s; responder = true; own = x.a; peer = x.b; ra = x.ra; rb = x.rb; key = shared_key x }
@@ -110,14 +110,14 @@ module _ (x : Sides) (r : Ready x) where
   type_b : type_of x.b ≤ 7
   type_b = (types x.store_a x.a x.b x.ta r.place_a r.found_a).1
 
-  pub first : Sends (step1 x) user.Nothing first_row (calling x.b x.a x.rb (kmac_for x)) (au1_unit x.b x.rb)
+  pub first : Sends (step1 x) User.Nothing first_row (calling x.b x.a x.rb (kmac_for x)) (au1_unit x.b x.rb)
   unfolding step1 asked square row_in table carried
   first =
-      subst (λ (k : List ℕ). Sends (step1 x) user.Nothing first_row (calling x.b x.a x.rb k) (au1_unit x.b x.rb)) r.shared
+      subst (λ (k : List ℕ). Sends (step1 x) User.Nothing first_row (calling x.b x.a x.rb k) (au1_unit x.b x.rb)) r.shared
       (performs (connect_request true x.b x.a x.tb x.rb x.store_b) idle x.out_b first_row r.place_b r.room_b refl refl r.found_b)
 
   -- the called side reads the caller and RB from the AU1
-  second_on : Sends (step (connect_indication true x.a x.ta x.ra (au1_unit x.b x.rb) x.store_a) idle x.out_a) user.Nothing second_row (called_in WFAU3 x) (second_unit x)
+  second_on : Sends (step (connect_indication true x.a x.ta x.ra (au1_unit x.b x.rb) x.store_a) idle x.out_a) User.Nothing second_row (called_in WFAU3 x) (second_unit x)
   unfolding asked square row_in table carried
   second_on =
       let u = au1_unit x.b x.rb in
@@ -130,18 +130,18 @@ module _ (x : Sides) (r : Ready x) where
       (ap (λ (v : ℕ). found x.store_a x.a v x.ta) sender ∙ r.found_a)
       in
       subst₂ (λ (v : ℕ) (w : List ℕ).
-      let key = session_keys (held.key x.store_a v x.ta) x.ra w in
-      Sends (step i idle x.out_a) user.Nothing second_row (record { state = state_code WFAU3; responder = true; own = x.a; peer = v; ra = x.ra; rb = w; key = key })
+      let key = session_keys (Held.key x.store_a v x.ta) x.ra w in
+      Sends (step i idle x.out_a) User.Nothing second_row (record { state = state_code WFAU3; responder = true; own = x.a; peer = v; ra = x.ra; rb = w; key = key })
       (au2_unit key x.a v x.ra w)) sender number p
 
-  pub second : Sends (step2 x) user.Nothing second_row (called_in WFAU3 x) (second_unit x)
+  pub second : Sends (step2 x) User.Nothing second_row (called_in WFAU3 x) (second_unit x)
   unfolding step2
   second =
-      subst (λ (u : List ℕ). Sends (step (connect_indication true x.a x.ta x.ra u x.store_a) idle x.out_a) user.Nothing second_row (called_in WFAU3 x) (second_unit x))
+      subst (λ (u : List ℕ). Sends (step (connect_indication true x.a x.ta x.ra u x.store_a) idle x.out_a) User.Nothing second_row (called_in WFAU3 x) (second_unit x))
       (sym first.unit_is) second_on
 
   -- the caller reads RA from the AU2
-  third_on : Sends (step (connect_confirmation (second_unit x)) (calling x.b x.a x.rb (kmac_for x)) x.out_b) user.Nothing third_row (caller_in WFAR x) (third_unit x)
+  third_on : Sends (step (connect_confirmation (second_unit x)) (calling x.b x.a x.rb (kmac_for x)) x.out_b) User.Nothing third_row (caller_in WFAR x) (third_unit x)
   unfolding asked square row_in table carried
   third_on =
       let c = calling x.b x.a x.rb (kmac_for x) in
@@ -155,45 +155,45 @@ module _ (x : Sides) (r : Ready x) where
       in
       subst (λ (w : List ℕ).
       let key = session_keys (kmac_for x) w x.rb in
-      Sends o user.Nothing third_row (record { state = state_code WFAR; responder = false; own = x.b; peer = x.a; ra = w; rb = x.rb; key = key }) (au3_unit key x.a w x.rb)) number p
+      Sends o User.Nothing third_row (record { state = state_code WFAR; responder = false; own = x.b; peer = x.a; ra = w; rb = x.rb; key = key }) (au3_unit key x.a w x.rb)) number p
 
-  pub third : Sends (step3 x) user.Nothing third_row (caller_in WFAR x) (third_unit x)
+  pub third : Sends (step3 x) User.Nothing third_row (caller_in WFAR x) (third_unit x)
   unfolding step3
   third =
-      subst₂ (λ (u : List ℕ) (c : Connection). Sends (step (connect_confirmation u) c x.out_b) user.Nothing third_row (caller_in WFAR x) (third_unit x))
+      subst₂ (λ (u : List ℕ) (c : Connection). Sends (step (connect_confirmation u) c x.out_b) User.Nothing third_row (caller_in WFAR x) (third_unit x))
       (sym second.unit_is) (sym first.connection_is) third_on
 
-  fourth_on : Sends (step (unit_indication Au3 (third_unit x)) (called_in WFAU3 x) x.out_a) user.ConnectIndication fourth_row (called_in WFRESP x) []
+  fourth_on : Sends (step (unit_indication Au3 (third_unit x)) (called_in WFAU3 x) x.out_a) User.ConnectIndication fourth_row (called_in WFRESP x) []
   unfolding asked judged_unit square row_in table carried
   fourth_on =
       performs (unit_indication Au3 (third_unit x)) (called_in WFAU3 x) x.out_a fourth_row 0 r.room_a refl
       (ap (λ (f : Fault). square AU3 WFAU3 (unless 3 f).when) (built_are_fine.au3 (shared_key x) x.a x.ra x.rb)) refl
 
-  fourth : Sends (step4 x) user.ConnectIndication fourth_row (called_in WFRESP x) []
+  fourth : Sends (step4 x) User.ConnectIndication fourth_row (called_in WFRESP x) []
   unfolding step4
   fourth =
-      subst₂ (λ (u : List ℕ) (c : Connection). Sends (step (unit_indication Au3 u) c x.out_a) user.ConnectIndication fourth_row (called_in WFRESP x) [])
+      subst₂ (λ (u : List ℕ) (c : Connection). Sends (step (unit_indication Au3 u) c x.out_a) User.ConnectIndication fourth_row (called_in WFRESP x) [])
       (sym third.unit_is) (sym second.connection_is) fourth_on
 
-  fifth_on : Sends (step connect_response (called_in WFRESP x) x.out_a) user.Nothing fifth_row (called_in DATA x) (ar_unit (shared_key x) x.b)
+  fifth_on : Sends (step connect_response (called_in WFRESP x) x.out_a) User.Nothing fifth_row (called_in DATA x) (ar_unit (shared_key x) x.b)
   unfolding asked square row_in table carried
   fifth_on = performs connect_response (called_in WFRESP x) x.out_a fifth_row 0 r.room_a refl refl refl
 
-  pub fifth : Sends (step5 x) user.Nothing fifth_row (called_in DATA x) (ar_unit (shared_key x) x.b)
+  pub fifth : Sends (step5 x) User.Nothing fifth_row (called_in DATA x) (ar_unit (shared_key x) x.b)
   unfolding step5
   fifth =
-      subst (λ (c : Connection). Sends (step connect_response c x.out_a) user.Nothing fifth_row (called_in DATA x) (ar_unit (shared_key x) x.b)) (sym fourth.connection_is) fifth_on
+      subst (λ (c : Connection). Sends (step connect_response c x.out_a) User.Nothing fifth_row (called_in DATA x) (ar_unit (shared_key x) x.b)) (sym fourth.connection_is) fifth_on
 
-  sixth_on : Sends (step (unit_indication Ar (ar_unit (shared_key x) x.b)) (caller_in WFAR x) x.out_b) user.ConnectConfirmation sixth_row (caller_in DATA x) []
+  sixth_on : Sends (step (unit_indication Ar (ar_unit (shared_key x) x.b)) (caller_in WFAR x) x.out_b) User.ConnectConfirmation sixth_row (caller_in DATA x) []
   unfolding asked judged_unit square row_in table carried
   sixth_on =
       performs (unit_indication Ar (ar_unit (shared_key x) x.b)) (caller_in WFAR x) x.out_b sixth_row 0 r.room_b refl
       (ap (λ (f : Fault). square AR WFAR (unless 4 f).when) (built_are_fine.ar (shared_key x) x.b)) refl
 
-  sixth : Sends (step6 x) user.ConnectConfirmation sixth_row (caller_in DATA x) []
+  sixth : Sends (step6 x) User.ConnectConfirmation sixth_row (caller_in DATA x) []
   unfolding step6
   sixth =
-      subst₂ (λ (u : List ℕ) (c : Connection). Sends (step (unit_indication Ar u) c x.out_b) user.ConnectConfirmation sixth_row (caller_in DATA x) [])
+      subst₂ (λ (u : List ℕ) (c : Connection). Sends (step (unit_indication Ar u) c x.out_b) User.ConnectConfirmation sixth_row (caller_in DATA x) [])
       (sym fifth.unit_is) (sym third.connection_is) sixth_on
 
 -- ---- the two sides then
@@ -238,11 +238,11 @@ unfolding square row_in table
 data_row = refl
 
 module _ (c d : Connection) (sent out : List ℕ) (p : Partners c d) (some : 1 ≤ length sent) (most : length sent ≤ 1023) (room : 1032 ≤ length out) where
-  sends_data : Sends (step (data_request sent) c out) user.Nothing (square_of no SendDt Keep (to DATA)) c (unit_of c.key (etcs_id c.peer) c.responder sent)
+  sends_data : Sends (step (data_request sent) c out) User.Nothing (square_of no SendDt Keep (to DATA)) c (unit_of c.key (etcs_id c.peer) c.responder sent)
   unfolding asked carried
   sends_data =
       let q = square_of no SendDt Keep (to DATA) in
-      subst (λ (n : ℕ). Sends (step (data_request sent) c out) user.Nothing q (with_state c n) (unit_of c.key (etcs_id c.peer) c.responder sent))
+      subst (λ (n : ℕ). Sends (step (data_request sent) c out) User.Nothing q (with_state c n) (unit_of c.key (etcs_id c.peer) c.responder sent))
       (sym p.c_in-DATA)
       (performs (data_request sent) c out q 0 room (is-between 1 1023 (length sent) some most) (ap (λ (n : ℕ). square SaDataReq (state_of n) ok) p.c_in-DATA ∙ data_row) refl)
 

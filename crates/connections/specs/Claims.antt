@@ -3,7 +3,7 @@
 use Rattle.std.specs.Prelude.{◌≡◌, Bool, true, false, not, List, ◌∷◌, ◌++◌, ℕ, ◌≤◌, length}
 use Rattle.octets.specs.Bytes.{part}
 use Rattle.refusal.specs.House.{gives}
-use Rattle.store.specs.Search as held
+use Rattle.store.specs.Search as Held
 use Rattle.authentication.specs.Keys.{session_keys}
 use Rattle.authentication.specs.Claims.{IsBuilt}
 use Rattle.units.specs.Units.{etcs_id}
@@ -12,7 +12,7 @@ use Rattle.table.specs.declared.Actions.{Actions}
 use Rattle.table.specs.declared.Kind.TheVariants.{Au3, Ar, Dt}
 use Rattle.table.specs.declared.State.{State}
 use Rattle.table.specs.declared.State.TheVariants.{IDLE, WFTC, WFAR, DATA, WFAU3, WFRESP}
-use Rattle.table.specs.declared.ToUser.TheVariants as user
+use Rattle.table.specs.declared.ToUser.TheVariants as User
 use Rattle.table.specs.declared.ToTransport.TheVariants.{Quiet}
 use Rattle.table.specs.declared.Timer.TheVariants.{Keep}
 use Rattle.table.specs.Table.{a6, state_code, state_of}
@@ -72,7 +72,7 @@ pub record SessionData (i : Input) (w : World) (n : ℕ) : Type 0 where
 
 pub record OnlyCheckedData : Type 0 where
   pub only : (cs : List Call) (i : Input) (out : List ℕ) (a : Actions) (n : ℕ) → (step i (run cs).connection out).answer ≡ done a
-      → a.user ≡ user.DataIndication n → SessionData i (run cs) n
+      → a.user ≡ User.DataIndication n → SessionData i (run cs) n
 
 -- ---- "key expiry later doesn't close"
 
@@ -94,14 +94,14 @@ pub record Ready (x : Sides) : Type 0 where
   pub place_b : ℕ
   pub found_a : found x.store_a x.a x.b x.ta ≡ gives place_a
   pub found_b : found x.store_b x.b x.a x.tb ≡ gives place_b
-  pub shared : held.key x.store_b x.a x.tb ≡ held.key x.store_a x.b x.ta
+  pub shared : Held.key x.store_b x.a x.tb ≡ Held.key x.store_a x.b x.ta
   pub eight_a : length x.ra ≡ 8
   pub eight_b : length x.rb ≡ 8
   pub room_a : 1032 ≤ length x.out_a
   pub room_b : 1032 ≤ length x.out_b
 
 abbrev pub shared_key : Sides → List ℕ
-shared_key x = session_keys (held.key x.store_a x.b x.ta) x.ra x.rb
+shared_key x = session_keys (Held.key x.store_a x.b x.ta) x.ra x.rb
 
 -- what c sends, d can check: both in DATA, one key, c sends to d, in opposite roles
 pub record Partners (c d : Connection) : Type 0 where
@@ -114,8 +114,8 @@ pub record Partners (c d : Connection) : Type 0 where
 
 pub record SetUp (x : Sides) : Type 0 where
   -- the users hear of it
-  pub indicated : (step4 x).answer ≡ done (acts user.ConnectIndication Quiet Keep 0)
-  pub confirmed : (step6 x).answer ≡ done (acts user.ConnectConfirmation Quiet a6 0)
+  pub indicated : (step4 x).answer ≡ done (acts User.ConnectIndication Quiet Keep 0)
+  pub confirmed : (step6 x).answer ≡ done (acts User.ConnectConfirmation Quiet a6 0)
   -- both sides are in DATA with one session key
   pub called_is : (step5 x).connection ≡ record { state = state_code DATA; responder = true; own = x.a; peer = x.b; ra = x.ra; rb = x.rb; key = shared_key x }
   pub caller_is : (step6 x).connection ≡ record { state = state_code DATA; responder = false; own = x.b; peer = x.a; ra = x.ra; rb = x.rb; key = shared_key x }
@@ -131,7 +131,7 @@ pub record Completes : Type 0 where
 -- the same bytes go up at the other side, and neither connection changes: so it holds of any number of units, in any order
 pub record Arrived (c d : Connection) (sent : List ℕ) (sending receiving : Outcome) (unit : List ℕ) : Type 0 where
   pub sender_is : sending.connection ≡ c
-  pub answer_is : receiving.answer ≡ done (acts (user.DataIndication (length sent)) Quiet Keep 0)
+  pub answer_is : receiving.answer ≡ done (acts (User.DataIndication (length sent)) Quiet Keep 0)
   pub receiver_is : receiving.connection ≡ d
   pub handed : handed_up receiving.answer unit ≡ sent
   pub dt_told : kind_of unit ≡ Dt

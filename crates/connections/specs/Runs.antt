@@ -1,7 +1,7 @@
 -- Runs: lists of events over one connection, and what inputs and answers tell of the session at hand; and two sides that exchange units.
 -- Assumes nothing.
 use Rattle.std.specs.Prelude.{Bool, true, false, cond, List, [], ◌∷◌, ℕ, take, replicate}
-use Rattle.store.specs.Search as held
+use Rattle.store.specs.Search as Held
 use Rattle.authentication.specs.Keys.{session_keys}
 use Rattle.units.specs.Units.{sender_of, random}
 use Rattle.table.specs.declared.Connection.{Connection}
@@ -24,7 +24,7 @@ pub record Account : Type 0 where
 
 -- the KMAC that the search gave, and the session's key
 abbrev pub kmac_of : Account → List ℕ
-kmac_of h = held.key h.store h.peer h.t
+kmac_of h = Held.key h.store h.peer h.t
 
 abbrev pub key_of : Account → List ℕ
 key_of h = session_keys (kmac_of h) h.ra h.rb

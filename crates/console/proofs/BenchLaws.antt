@@ -15,7 +15,7 @@ use Rattle.store.specs.declared.Edition.TheVariants.{Known, Unknown}
 use Rattle.store.specs.Layout.{total, edition_in, edition_of}
 use Rattle.store.proofs.SearchLaws.{edition_of-says, known-edition}
 use Rattle.convert.specs.Convert.{answered, converted, Converts}
-use Rattle.convert.specs.declared.Converted.TheVariants as converted_as
+use Rattle.convert.specs.declared.Converted.TheVariants as ConvertedAs
 use Rattle.convert.proofs.DoneLaws.{same_answer, same_target}
 use Rattle.lines.specs.Digits.{bytes_of, Puts}
 use Rattle.lines.specs.Words.{word}
@@ -100,12 +100,12 @@ module _ (large : Bool) (n : ℕ) (s to new : List ℕ) (h : (n ≡ size_of (not
   answer_is : answered (limits_of large) (limits_of (not large)) s to ≡ conversion large s
   answer_is = same_answer (limits_of large) (limits_of (not large)) s to (target_of large) target-long
 
-  pub held-refused : (g : Refusal) → Converts (limits_of large) (limits_of (not large)) s to new (converted_as.Refused g) → (large ≡ large_then (conversion large s) large) × (s ≡ store_then large s)
+  pub held-refused : (g : Refusal) → Converts (limits_of large) (limits_of (not large)) s to new (ConvertedAs.Refused g) → (large ≡ large_then (conversion large s) large) × (s ≡ store_then large s)
   held-refused g c =
       let e : house (house_number g) ≡ conversion large s = c.answer ∙ answer_is in
       (ap (λ (x : Answer). large_then x large) e, buffer-kept (house_number g) (converted (limits_of large) (limits_of (not large)) s (target_of large)) s e)
 
-  pub held-converted : Converts (limits_of large) (limits_of (not large)) s to new converted_as.Done → length new ≡ length to
+  pub held-converted : Converts (limits_of large) (limits_of (not large)) s to new ConvertedAs.Done → length new ≡ length to
       → (before after rest : List ℕ) → after ≡ splice before 0 (part (new ++ rest) 0 n)
       → (not large ≡ large_then (conversion large s) large) × (store_of (not large) after ≡ store_then large s)
   unfolding part

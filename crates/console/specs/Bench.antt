@@ -15,7 +15,7 @@ use Rattle.refusal.specs.House.{Answer, house, gives, unless_refused}
 use Rattle.convert.specs.Convert.{answered, converted}
 use Rattle.lines.specs.Orders.{order_of}
 use Rattle.lines.specs.declared.orders.Order.{Order}
-use Rattle.lines.specs.declared.orders.Order.TheVariants as order
+use Rattle.lines.specs.declared.orders.Order.TheVariants as TheOrder
 use Rattle.authentication.specs.Keys.{derived}
 use Rattle.console.specs.declared.bench.Bench.{Bench}
 use Rattle.console.specs.declared.connections.Sides.{Sides}
@@ -135,24 +135,24 @@ after_message o h = with_store h.large o.store (with_session o.session h)
 
 -- what is held once a line was obeyed; begin, message, keys, what is asked of a connection, store, edition, convert and empty change it, and no other order does
 abbrev pub obeyed : Order → List ℕ → Held → Held
-obeyed order.Nothing text h = h
-obeyed order.Note text h = h
-obeyed (order.Begin own peer number) text h = with_session (session_of (begin own peer number output) h.session) h
-obeyed order.Message text h = after_message (receive h.session (bytes_in text 1) h.store output) h
-obeyed (order.Search peer t) text h = h
-obeyed (order.Keys place ra rb) text h =
+obeyed TheOrder.Nothing text h = h
+obeyed TheOrder.Note text h = h
+obeyed (TheOrder.Begin own peer number) text h = with_session (session_of (begin own peer number output) h.session) h
+obeyed TheOrder.Message text h = after_message (receive h.session (bytes_in text 1) h.store output) h
+obeyed (TheOrder.Search peer t) text h = h
+obeyed (TheOrder.Keys place ra rb) text h =
     with_keys (keyed_by (derived (sound_kmac h.store place)) h.keyed) (keys_by (sound_kmac h.store place) ra rb h.keys) h
-obeyed (order.Build destination direction) text h = h
-obeyed (order.Check destination direction) text h = h
-obeyed (order.Connection second what) text h = with_sides (sides_by second what text h.store h.sides) h
-obeyed order.Store text h = with_store (large_in text h.large) (store_in text h.store) h
-obeyed (order.Edition large) text h = with_store large (empty_of large) h
-obeyed order.Convert text h = with_store (large_then (conversion h.large h.store) h.large) (store_then h.large h.store) h
-obeyed order.Show text h = h
-obeyed order.Empty text h = with_store h.large (empty_of h.large) h
-obeyed order.Help text h = h
-obeyed order.Unknown text h = h
-obeyed (order.Bad fault command) text h = h
+obeyed (TheOrder.Build destination direction) text h = h
+obeyed (TheOrder.Check destination direction) text h = h
+obeyed (TheOrder.Connection second what) text h = with_sides (sides_by second what text h.store h.sides) h
+obeyed TheOrder.Store text h = with_store (large_in text h.large) (store_in text h.store) h
+obeyed (TheOrder.Edition large) text h = with_store large (empty_of large) h
+obeyed TheOrder.Convert text h = with_store (large_then (conversion h.large h.store) h.large) (store_then h.large h.store) h
+obeyed TheOrder.Show text h = h
+obeyed TheOrder.Empty text h = with_store h.large (empty_of h.large) h
+obeyed TheOrder.Help text h = h
+obeyed TheOrder.Unknown text h = h
+obeyed (TheOrder.Bad fault command) text h = h
 
 -- a line that has come to its end, of n bytes: obeyed where it has room for them, else not read
 abbrev pub line_done : List ℕ → ℕ → Held → Held

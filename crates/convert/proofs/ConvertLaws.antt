@@ -25,7 +25,7 @@ use Rattle.store.proofs.DecodeLaws.{entries-length, peers-length, encode-entries
 use Rattle.store.proofs.EncodingLaws.{fitting-long, header-length, key_records-length}
 use Rattle.store.proofs.WellFormedLaws.{sound-well_formed}
 use Rattle.convert.specs.Convert.{has_room, answered, converted, Converts}
-use Rattle.convert.specs.declared.Converted.TheVariants as converted_as
+use Rattle.convert.specs.declared.Converted.TheVariants as ConvertedAs
 
 -- ---- room
 
@@ -176,25 +176,25 @@ module _ (F T : Limits) (from : List ℕ) (bytes : Bytes from) (h : sound F from
 -- ---- the answer
 
 module _ (F T : Limits) (from to : List ℕ) where
-  pub wrong_source : eqb (length from) (total F) ≡ false → Converts F T from to to (converted_as.Refused StoreLength)
+  pub wrong_source : eqb (length from) (total F) ≡ false → Converts F T from to to (ConvertedAs.Refused StoreLength)
   unfolding answered converted
   wrong_source a = record { answer = rw a; target = rw a }
 
   module _ (a : eqb (length from) (total F) ≡ true) where
-    pub wrong_target : eqb (length to) (total T) ≡ false → Converts F T from to to (converted_as.Refused StoreLength)
+    pub wrong_target : eqb (length to) (total T) ≡ false → Converts F T from to to (ConvertedAs.Refused StoreLength)
     unfolding answered converted
     wrong_target b = record { answer = rw (a, b); target = rw (a, b) }
 
     module _ (b : eqb (length to) (total T) ≡ true) where
-      pub unsound : sound F from ≡ false → Converts F T from to to (converted_as.Refused StoreUnsound)
+      pub unsound : sound F from ≡ false → Converts F T from to to (ConvertedAs.Refused StoreUnsound)
       unfolding answered converted
       unsound c = record { answer = rw (a, b, c); target = rw (a, b, c) }
 
       module _ (c : sound F from ≡ true) where
-        pub no_room : has_room T (entries F from) ≡ false → Converts F T from to to (converted_as.Refused NoRoom)
+        pub no_room : has_room T (entries F from) ≡ false → Converts F T from to to (ConvertedAs.Refused NoRoom)
         unfolding answered converted
         no_room d = record { answer = rw (a, b, c, d); target = rw (a, b, c, d) }
 
-        pub done : has_room T (entries F from) ≡ true → (to' : List ℕ) → to' ≡ encode T (entries F from) → Converts F T from to to' converted_as.Done
+        pub done : has_room T (entries F from) ≡ true → (to' : List ℕ) → to' ≡ encode T (entries F from) → Converts F T from to to' ConvertedAs.Done
         unfolding answered converted
         done d to' e = record { answer = rw (a, b, c, d); target = rw (a, b, c, d) e }

@@ -19,7 +19,7 @@ use Rattle.store.proofs.SearchLaws.{edition_of-says}
 use Rattle.convert.specs.Convert.{answered, converted, converted_as}
 use Rattle.convert.specs.Claims.{SameEntries, ThereAndBack, ForwardAlways, TargetNotJudged, RefusedWritesNothing, LengthExactly, UnsoundExactly, TooMany, NoRoomExactly, SameSearch, OneAnswer}
 use Rattle.convert.specs.declared.Converted.{Converted}
-use Rattle.convert.specs.declared.Converted.TheVariants as converted_as
+use Rattle.convert.specs.declared.Converted.TheVariants as ConvertedAs
 use Rattle.convert.proofs.ConvertLaws.{room-holds}
 use Rattle.convert.proofs.DoneLaws.{is-done, same_answer, same_target, made_sound, same, returns, same-found}
 use Rattle.convert.proofs.RefusedLaws.{of_source, of_target, is-unsound, other_header, is-full, Why, source_length, target-length, unsound, full, why, too_many, room-none}
@@ -121,7 +121,7 @@ pub one_answer : OneAnswer
 one_answer = record { of_conversion = one }
   where
     one : (a b : Converted) → converted_as a ≡ converted_as b → a ≡ b
-    one converted_as.Done converted_as.Done e = refl
-    one converted_as.Done (converted_as.Refused h) e = not-both (house_number h) 0 (sym e)
-    one (converted_as.Refused g) converted_as.Done e = not-both (house_number g) 0 e
-    one (converted_as.Refused g) (converted_as.Refused h) e = ap converted_as.Refused (one_number g h (house-number (house_number g) (house_number h) e))
+    one ConvertedAs.Done ConvertedAs.Done e = refl
+    one ConvertedAs.Done (ConvertedAs.Refused h) e = not-both (house_number h) 0 (sym e)
+    one (ConvertedAs.Refused g) ConvertedAs.Done e = not-both (house_number g) 0 e
+    one (ConvertedAs.Refused g) (ConvertedAs.Refused h) e = ap ConvertedAs.Refused (one_number g h (house-number (house_number g) (house_number h) e))

@@ -7,7 +7,7 @@ use Rattle.store.specs.Layout.{total}
 use Rattle.store.specs.Store.{Entry, peers_of, encode, entries, sound}
 use Rattle.store.specs.declared.Limits.{Limits}
 use Rattle.convert.specs.declared.Converted.{Converted}
-use Rattle.convert.specs.declared.Converted.TheVariants as converted_as
+use Rattle.convert.specs.declared.Converted.TheVariants as ConvertedAs
 
 -- an edition has room for these entries
 unfoldable pub has_room : Limits → List Entry → Bool
@@ -26,8 +26,8 @@ unfoldable pub converted : Limits → Limits → List ℕ → List ℕ → List 
 converted F T from to = unless_refused (answered F T from to) (encode T (entries F from)) to
 
 abbrev pub converted_as : Converted → Answer
-converted_as converted_as.Done = gives 0
-converted_as (converted_as.Refused h) = house (house_number h)
+converted_as ConvertedAs.Done = gives 0
+converted_as (ConvertedAs.Refused h) = house (house_number h)
 
 -- what is promised of a call: its answer, and the target to' that it leaves
 pub record Converts (F T : Limits) (from to to' : List ℕ) (r : Converted) : Type 0 where

@@ -20,7 +20,7 @@ use Rattle.depot.specs.declared.Class.{Class}
 use Rattle.depot.specs.declared.Class.TheVariants.{Fit, Ended, Early, Reversed}
 use Rattle.depot.specs.declared.Classes.{Classes}
 use Rattle.depot.specs.declared.Tally.{Tally}
-use Rattle.depot.specs.declared.Counted.TheVariants as counted_as
+use Rattle.depot.specs.declared.Counted.TheVariants as CountedAs
 use Rattle.depot.specs.Claims.{Within}
 use Rattle.depot.specs.Counts.{class_of, class_in, one_more, classes_of, in_all, tally_of, counts_in, rooms, largest}
 
@@ -87,19 +87,19 @@ module _ (L : Limits) (s : List ℕ) (t n : ℕ) where
 -- ---- the counts of a store
 
 module _ (L : Limits) (s : List ℕ) (t : ℕ) where
-  pub counts-unsound : sound L s ≡ false → counted_as.Bad ≡ counts_in (Known L) s t
+  pub counts-unsound : sound L s ≡ false → CountedAs.Bad ≡ counts_in (Known L) s t
   unfolding counts_in
   counts-unsound h = rw h
 
   pub counts-sound : sound L s ≡ true → (c : Classes) (n m : ℕ) → c ≡ classes_of t (entries L s) → n ≡ key_count s → m ≡ peer_count s
-      → counted_as.Counts (record { held = n; fit = c.fit; ended = c.ended; early = c.early; reversed = c.reversed; peers = m }) ≡ counts_in (Known L) s t
+      → CountedAs.Counts (record { held = n; fit = c.fit; ended = c.ended; early = c.early; reversed = c.reversed; peers = m }) ≡ counts_in (Known L) s t
   unfolding counts_in tally_of
   counts-sound h c n m e p q =
       let w : Sound L s = sound-says L s h in
       rw h
-      (ap₂ (λ (x y : ℕ). counted_as.Counts (record { held = x; fit = c.fit; ended = c.ended; early = c.early; reversed = c.reversed; peers = y }))
+      (ap₂ (λ (x y : ℕ). CountedAs.Counts (record { held = x; fit = c.fit; ended = c.ended; early = c.early; reversed = c.reversed; peers = y }))
       (p ∙ sym (entries-length L s)) (q ∙ sym (peers-length L s w))
-      ∙ ap (λ (x : Classes). counted_as.Counts (record { held = length (entries L s); fit = x.fit; ended = x.ended; early = x.early; reversed = x.reversed; peers = length (peers_of (entries L s)) })) e)
+      ∙ ap (λ (x : Classes). CountedAs.Counts (record { held = length (entries L s); fit = x.fit; ended = x.ended; early = x.early; reversed = x.reversed; peers = length (peers_of (entries L s)) })) e)
 
 -- ---- sums
 

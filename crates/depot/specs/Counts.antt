@@ -11,9 +11,9 @@ use Rattle.depot.specs.declared.Class.TheVariants.{Fit, Ended, Early, Reversed}
 use Rattle.depot.specs.declared.Classes.{Classes}
 use Rattle.depot.specs.declared.Tally.{Tally}
 use Rattle.depot.specs.declared.Counted.{Counted}
-use Rattle.depot.specs.declared.Counted.TheVariants as counted_as
+use Rattle.depot.specs.declared.Counted.TheVariants as CountedAs
 use Rattle.depot.specs.declared.Summed.{Summed}
-use Rattle.depot.specs.declared.Summed.TheVariants as summed-as
+use Rattle.depot.specs.declared.Summed.TheVariants as SummedAs
 
 -- ---- classes
 
@@ -51,8 +51,8 @@ tally_of t es =
 
 -- "is unsound or has a wrong length": bad
 unfoldable pub counts_in : Edition → List ℕ → ℕ → Counted
-counts_in Unknown s t = counted_as.Bad
-counts_in (Known L) s t = cond (sound L s) (counted_as.Counts (tally_of t (entries L s))) counted_as.Bad
+counts_in Unknown s t = CountedAs.Bad
+counts_in (Known L) s t = cond (sound L s) (CountedAs.Counts (tally_of t (entries L s))) CountedAs.Bad
 
 unfoldable pub counts_of : List ℕ → ℕ → Counted
 counts_of s t = counts_in (edition_of (length s)) s t
@@ -86,4 +86,4 @@ rooms a b =
     ∷ []
 
 unfoldable pub sum_of : Tally → Tally → Summed
-sum_of a b = cond (all_hold (rooms a b)) (summed-as.Sums (sums a b)) summed-as.TooLarge
+sum_of a b = cond (all_hold (rooms a b)) (SummedAs.Sums (sums a b)) SummedAs.TooLarge

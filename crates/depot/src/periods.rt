@@ -36,7 +36,7 @@ fn class_at(s: &[u8], lim: Limits, i: usize, t: u32) -> Class
 }
 
 // One key more in a class.
-fn one_more_lem(c: Classes, class: Class) -> Classes
+fn one_more(c: Classes, class: Class) -> Classes
     requires { in_all c < 65536 }
     ensures { result ≡ one_more class c }
 {
@@ -83,7 +83,7 @@ pub fn classes_of(s: &[u8], lim: Limits, t: u32) -> Classes
     let mut i = n;
     while i > 0 {
         i -= 1;
-        c = one_more_lem(c, class_at(s, lim, i, t));
+        c = one_more(c, class_at(s, lim, i, t));
     }
     c
 }

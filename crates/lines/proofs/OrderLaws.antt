@@ -12,50 +12,50 @@ use Rattle.lines.specs.Connections.{verb_fields}
 use Rattle.lines.specs.Orders.{fields_order, command_of, field_count, has_word, command_order, named_order, order_of}
 use Rattle.lines.specs.Words.{word}
 use Rattle.lines.specs.declared.orders.Command.{Command}
-use Rattle.lines.specs.declared.orders.Command.TheVariants as command
+use Rattle.lines.specs.declared.orders.Command.TheVariants as TheCommand
 use Rattle.lines.specs.declared.orders.Named.{Named}
-use Rattle.lines.specs.declared.orders.Order.TheVariants as order
+use Rattle.lines.specs.declared.orders.Order.TheVariants as Order
 use Rattle.lines.specs.declared.connections.Verb.{Verb}
-use Rattle.lines.specs.declared.connections.Verb.TheVariants as verb
-use Rattle.lines.specs.declared.fields.Fault.TheVariants as fault
+use Rattle.lines.specs.declared.connections.Verb.TheVariants as TheVerb
+use Rattle.lines.specs.declared.fields.Fault.TheVariants as Fault
 
 -- ---- commands
 
 few_of : (v : Verb) → verb_fields v ≤ 4
-few_of verb.Connection = omega arith
-few_of verb.Call = omega arith
-few_of verb.Indicate = omega arith
-few_of verb.Confirm = omega arith
-few_of verb.Bring = omega arith
-few_of verb.Respond = omega arith
-few_of verb.Say = omega arith
-few_of verb.Release = omega arith
-few_of verb.Lost = omega arith
-few_of verb.End = omega arith
-few_of verb.Late = omega arith
+few_of TheVerb.Connection = omega arith
+few_of TheVerb.Call = omega arith
+few_of TheVerb.Indicate = omega arith
+few_of TheVerb.Confirm = omega arith
+few_of TheVerb.Bring = omega arith
+few_of TheVerb.Respond = omega arith
+few_of TheVerb.Say = omega arith
+few_of TheVerb.Release = omega arith
+few_of TheVerb.Lost = omega arith
+few_of TheVerb.End = omega arith
+few_of TheVerb.Late = omega arith
 
 pub few-fields : (c : Command) → field_count c ≤ 4
-few-fields command.Begin = omega arith
-few-fields command.Message = omega arith
-few-fields command.Search = omega arith
-few-fields command.Keys = omega arith
-few-fields command.Build = omega arith
-few-fields command.Check = omega arith
-few-fields (command.Connection v) = few_of v
-few-fields command.Store = omega arith
-few-fields command.Edition = omega arith
-few-fields command.Convert = omega arith
-few-fields command.Show = omega arith
-few-fields command.Empty = omega arith
-few-fields command.Help = omega arith
+few-fields TheCommand.Begin = omega arith
+few-fields TheCommand.Message = omega arith
+few-fields TheCommand.Search = omega arith
+few-fields TheCommand.Keys = omega arith
+few-fields TheCommand.Build = omega arith
+few-fields TheCommand.Check = omega arith
+few-fields (TheCommand.Connection v) = few_of v
+few-fields TheCommand.Store = omega arith
+few-fields TheCommand.Edition = omega arith
+few-fields TheCommand.Convert = omega arith
+few-fields TheCommand.Show = omega arith
+few-fields TheCommand.Empty = omega arith
+few-fields TheCommand.Help = omega arith
 
 -- the tests for words that are missing, and for words too many
 module _ (c : Command) (s : List ℕ) (n : ℕ) (p : n ≡ field_count c) (r : Bool) (h : r ≡ has_word s n) where
-  pub too_few : not r ≡ true → order.Bad fault.TooFewWords c ≡ command_order c s
+  pub too_few : not r ≡ true → Order.Bad Fault.TooFewWords c ≡ command_order c s
   unfolding command_order
   too_few t = simp (sym p, sym h, not-true r t)
 
-  pub too_many : (q : Bool) → not r ≡ false → q ≡ has_word s (n + 1) → q ≡ true → order.Bad fault.TooManyWords c ≡ command_order c s
+  pub too_many : (q : Bool) → not r ≡ false → q ≡ has_word s (n + 1) → q ≡ true → Order.Bad Fault.TooManyWords c ≡ command_order c s
   unfolding command_order
   too_many q t k e = simp (sym p, sym h, not-false r t, sym k, e)
 
@@ -66,11 +66,11 @@ module _ (c : Command) (s : List ℕ) (n : ℕ) (p : n ≡ field_count c) (r : B
 -- ---- lines
 
 module _ (s : List ℕ) (r : Bool) (h : r ≡ eqb (get_or s 0 0) 35) where
-  pub a_note : r ≡ true → order.Note ≡ order_of s
+  pub a_note : r ≡ true → Order.Note ≡ order_of s
   unfolding order_of
   a_note e = simp (sym h, e)
 
-  pub no_word : r ≡ false → (w : List ℕ) → w ≡ word s 0 → length w ≡ 0 → order.Nothing ≡ order_of s
+  pub no_word : r ≡ false → (w : List ℕ) → w ≡ word s 0 → length w ≡ 0 → Order.Nothing ≡ order_of s
   unfolding order_of
   no_word e w p l = simp (sym h, e, sym p, le-ltb 0 (length w) (omega arith))
 

@@ -133,7 +133,7 @@ fn list_ok(command: Command, m: &[u8]) -> bool
 }
 
 // The body test.
-pub fn body_fits(task: Task, m: &[u8]) -> bool
+pub fn body_ok(task: Task, m: &[u8]) -> bool
     ensures { result ≡ body_ok task m.now }
 {
     match task {

@@ -7,11 +7,11 @@ use lib.ListN.{length}
 use Rattle.store.specs.declared.Limits.{Limits}
 use Rattle.store.specs.Layout.{edition1, edition2}
 use Rattle.store.specs.Store.{sound}
-use Rattle.store.proofs.Theorems as stores
+use Rattle.store.proofs.Theorems as Stores
 use Rattle.session.specs.declared.Session.{Session}
 use Rattle.session.specs.Sessions.{Beginning}
 use Rattle.session.specs.Rules.{Answered, received_as}
-use Rattle.session.proofs.AnswerLaws as sessions
+use Rattle.session.proofs.AnswerLaws as Sessions
 use Rattle.runs.specs.Calls.{Call, World, begun, received, searched, reply_of, seen, session_of, next, all_seen, final}
 use Rattle.runs.specs.Alike.{AlikeCalls, no_calls, alike-begin, alike-message, alike-search}
 use Rattle.runs.specs.Tally.{reply_in}
@@ -59,17 +59,17 @@ reply_in-seen_by (by-search r part ∷ hs) = ap (◌∷◌ []) (reply_in-seen_by
 same_by : {cs cs' : List Call} {w w' v v' : World} {hs hs' : List Handed} → AlikeCalls cs cs' → CodeRun cs w hs v → CodeRun cs' w' hs' v' → map seen_by hs ≡ map seen_by hs' → SameHanded hs hs'
 same_by no_calls code-ends code-ends q = same_none
 same_by (alike-begin own peer start out c) (code-begin {hs = hs} {after = after} {r = r} b k) (code-begin {hs = hs'} {after = after'} {r = r'} b' k') q =
-    let a : r ≡ r' = (sessions.one_answer).of_begin r r' (cc) in
+    let a : r ≡ r' = (Sessions.one_answer).of_begin r r' (cc) in
     let o : after ≡ after' = cc in
     let l : map seen_by hs ≡ map seen_by hs' = cc in
     rw (a, o) (same-begin r' after' (same_by c k k' l))
 same_by (alike-message m m' out x c) (code-message {hs = hs} {after = after} {r = r} d k) (code-message {hs = hs'} {after = after'} {r = r'} d' k') q =
-    let a : r ≡ r' = (sessions.one_answer).of_message r r' (cc) in
+    let a : r ≡ r' = (Sessions.one_answer).of_message r r' (cc) in
     let o : after ≡ after' = cc in
     let l : map seen_by hs ≡ map seen_by hs' = cc in
     rw (a, o) (same-message r' after' (same_by c k k' l))
 same_by (alike-search peer t c) (code-search {hs = hs} {part = part} {r = r} f g k) (code-search {hs = hs'} {part = part'} {r = r'} f' g' k') q =
-    let a : r ≡ r' = (stores.one_answer).of_find r r' (cc) in
+    let a : r ≡ r' = (Stores.one_answer).of_find r r' (cc) in
     let n : length part ≡ length part' = cc in
     let l : map seen_by hs ≡ map seen_by hs' = cc in
     rw a (same-search r' part part' n (same_by c k k' l))

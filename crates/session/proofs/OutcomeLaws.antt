@@ -23,7 +23,7 @@ use Rattle.message.specs.Body.{body_ok, requests, requests_from, request_number}
 use Rattle.message.specs.Written.{reply_head}
 use Rattle.session.specs.declared.Session.{Session}
 use Rattle.session.specs.declared.Received.{Received}
-use Rattle.session.specs.declared.Received.TheVariants as Received-as
+use Rattle.session.specs.declared.Received.TheVariants as ReceivedAs
 use Rattle.session.specs.Sessions.{Closed, Open, closing, remembering, replied}
 use Rattle.session.specs.Rules.{Outcome, refuse, respond, test, header_tests, transaction_tests, repeats, Verdict, first_failed, all_pass, type_test, verdict, heard, obey, judged, while_waiting, in_state, receive_in, receive, reply, Does}
 use Rattle.session.specs.Parts.{Faults, Refuses, Reports, work_if_sound}
@@ -34,7 +34,7 @@ use Rattle.session.proofs.TestLaws.{tests_pass, header_fails, heard-old, heard-n
 pub does_as : {o o' : Outcome} {answer : Received} {session : Session} {store output : List ℕ} → o ≡ o' → Does o answer session store output → Does o' answer session store output
 does_as {answer = answer} {session = session} {store = store} {output = output} e d = subst (λ (x : Outcome). Does x answer session store output) e d
 
-pub refuses : (h : Refusal) (e : Session) → Refuses (house_number h) e (Received-as.Refused h) e
+pub refuses : (h : Refusal) (e : Session) → Refuses (house_number h) e (ReceivedAs.Refused h) e
 unfolding refuse
 refuses h e = record { by = λ s out. record { answer_is = refl; session_is = refl; store_is = refl; output_is = refl } }
 
@@ -42,7 +42,7 @@ refuses h e = record { by = λ s out. record { answer_is = refl; session_is = re
 
 pub reports : (n : ℕ) (e : Session) (m written after : List ℕ) (session : Session) (number : ℕ) → number ≡ transaction m
     → after ≡ splice written 0 (reply_head e.own e.peer number e.next 0 n) → session ≡ replied e Open
-    → Reports n e m written after (Received-as.Reply (23 + n)) session
+    → Reports n e m written after (ReceivedAs.Reply (23 + n)) session
 unfolding respond
 reports n e m written after session number en ea es =
     record {
@@ -98,7 +98,7 @@ module _ (L : Limits) (e : Session) (m s out : List ℕ) where
   unfolding first_failed
   end-judged h = simp h
 
-  pub ended-does : (session : Session) → session ≡ closing e → Does (obey L EndOfUpdate e m s out) Received-as.Ended session s out
+  pub ended-does : (session : Session) → session ≡ closing e → Does (obey L EndOfUpdate e m s out) ReceivedAs.Ended session s out
   unfolding obey
   ended-does session h = record { answer_is = refl; session_is = h; store_is = refl; output_is = refl }
 

@@ -7,8 +7,8 @@ use Rattle.refusal.specs.declared.Refusal.TheVariants.{OutputLength, SameIdentit
 use Rattle.message.specs.Header.{transaction, sequence}
 use Rattle.message.specs.Written.{init_bytes, reply_head}
 use Rattle.session.specs.declared.Session.{Session}
-use Rattle.session.specs.declared.Begun.TheVariants as begun-as
-use Rattle.session.specs.declared.Received.TheVariants as Received-as
+use Rattle.session.specs.declared.Begun.TheVariants as BegunAs
+use Rattle.session.specs.declared.Received.TheVariants as ReceivedAs
 use Rattle.session.specs.Sessions.{State, up, begins, or_refuse, begin, Begins, closing, opening, replied}
 use Rattle.session.specs.Rules.{respond, refuse, opens, while_waiting}
 use Rattle.session.specs.Parts.{Waits, Responds}
@@ -16,16 +16,16 @@ use Rattle.session.specs.Parts.{Waits, Responds}
 -- ---- begin
 
 module _ (own peer start : ℕ) (out : List ℕ) where
-  pub begin-short : length out < 1032 → Begins own peer start out out (begun-as.Refused OutputLength)
+  pub begin-short : length out < 1032 → Begins own peer start out out (BegunAs.Refused OutputLength)
   unfolding begin
   begin-short h = record { answer = simp (lt-leb 1032 (length out) h); written = simp (lt-leb 1032 (length out) h) }
 
-  pub begin-same : 1032 ≤ length out → own ≡ peer → Begins own peer start out out (begun-as.Refused SameIdentity)
+  pub begin-same : 1032 ≤ length out → own ≡ peer → Begins own peer start out out (BegunAs.Refused SameIdentity)
   unfolding begin
   begin-same h e = record { answer = simp (le-leb 1032 (length out) h, eq-eqb own peer e); written = simp (le-leb 1032 (length out) h, eq-eqb own peer e) }
 
   pub begin-right : (after : List ℕ) (next : ℕ) → 1032 ≤ length out → (own ≡ peer → ⊥) → after ≡ splice out 0 (init_bytes own peer start) → next ≡ up start
-      → Begins own peer start out after (begun-as.Made (record { state = 1; own = own; peer = peer; next = next; expected = 0; remembered = false; transaction = 0 }) 23)
+      → Begins own peer start out after (BegunAs.Made (record { state = 1; own = own; peer = peer; next = next; expected = 0; remembered = false; transaction = 0 }) 23)
   unfolding begin
   begin-right after next h e w n =
       record { answer = simp (le-leb 1032 (length out) h, ne_eqb own peer e, n); written = simp (le-leb 1032 (length out) h, ne_eqb own peer e) w }
@@ -45,7 +45,7 @@ begin-made own peer number out e n q = tested (leb 1032 (length out)) (not (eqb 
 
 pub responds : (response : ℕ) (then : State) (e : Session) (m out after : List ℕ) (session : Session) (number : ℕ) → number ≡ transaction m
     → after ≡ splice out 0 (reply_head e.own e.peer number e.next response 0) → session ≡ replied e then
-    → Responds response then e m out after (Received-as.Reply 23) session
+    → Responds response then e m out after (ReceivedAs.Reply 23) session
 unfolding respond
 responds response then e m out after session number en ea es =
     record {
@@ -61,10 +61,10 @@ responds response then e m out after session number en ea es =
 -- ---- waiting
 
 module _ (e : Session) (m : List ℕ) where
-  pub waits_opened : (session : Session) → opens e m ≡ true → session ≡ opening e (sequence m) → Waits e m Received-as.Opened session
+  pub waits_opened : (session : Session) → opens e m ≡ true → session ≡ opening e (sequence m) → Waits e m ReceivedAs.Opened session
   unfolding while_waiting
   waits_opened session o h = record { by = λ s out. record { answer_is = simp o; session_is = simp o h; store_is = simp o; output_is = simp o } }
 
-  pub waits_refused : (session : Session) → opens e m ≡ false → session ≡ closing e → Waits e m (Received-as.Refused NoSessionInit) session
+  pub waits_refused : (session : Session) → opens e m ≡ false → session ≡ closing e → Waits e m (ReceivedAs.Refused NoSessionInit) session
   unfolding while_waiting refuse
   waits_refused session o h = record { by = λ s out. record { answer_is = simp o; session_is = simp o h; store_is = simp o; output_is = simp o } }

@@ -18,7 +18,7 @@ use Rattle.message.specs.Body.{body_ok, requests}
 use Rattle.message.specs.Written.{reply_bytes, init_ok}
 use Rattle.session.specs.declared.Session.{Session}
 use Rattle.session.specs.declared.Received.{Received}
-use Rattle.session.specs.declared.Received.TheVariants as Received-as
+use Rattle.session.specs.declared.Received.TheVariants as ReceivedAs
 use Rattle.session.specs.Sessions.{State, Closed, Waiting, Open, state_of, closing, opening, remembering, replied}
 
 -- ---- what a message leaves
@@ -169,10 +169,10 @@ receive e m s out = receive_in (edition_of (length s)) e m s out
 
 -- the answer in the paper's numbers
 abbrev pub received_as : Received → Answered
-received_as (Received-as.Reply n) = reply n
-received_as Received-as.Opened = opened
-received_as Received-as.Ended = ended
-received_as (Received-as.Refused h) = refused (house_number h)
+received_as (ReceivedAs.Reply n) = reply n
+received_as ReceivedAs.Opened = opened
+received_as ReceivedAs.Ended = ended
+received_as (ReceivedAs.Refused h) = refused (house_number h)
 
 -- the answer, the session, and every byte of the store and of the output afterwards are those of an outcome
 pub record Does (o : Outcome) (answer : Received) (session : Session) (store output : List ℕ) : Type 0 where

@@ -6,7 +6,7 @@ use Rattle.refusal.specs.House.{house_number}
 use Rattle.message.specs.Written.{init_bytes}
 use Rattle.session.specs.declared.Session.{Session}
 use Rattle.session.specs.declared.Begun.{Begun}
-use Rattle.session.specs.declared.Begun.TheVariants as begun-as
+use Rattle.session.specs.declared.Begun.TheVariants as BegunAs
 
 -- ---- state codes: 0 closed, 1 waiting, 2 open; a session with any other code is a closed one
 
@@ -83,8 +83,8 @@ begin_output (refuses n) own peer start out = out
 
 -- the answer in the paper's numbers
 abbrev pub begun_as : Begun → Beginning
-begun_as (begun-as.Made e n) = begins e n
-begun_as (begun-as.Refused h) = refuses (house_number h)
+begun_as (BegunAs.Made e n) = begins e n
+begun_as (BegunAs.Refused h) = refuses (house_number h)
 
 pub record Begins (own peer start : ℕ) (out after : List ℕ) (r : Begun) : Type 0 where
   pub answer : begun_as r ≡ begin own peer start out

@@ -12,7 +12,7 @@ ghost use Rattle.session.specs.Rules.{receive, receive_in, in_state, judged, typ
 ghost use Rattle.session.specs.Parts.{Refuses, Waits, Responds, Reports, work_if_sound};
 
 use crate::header::{header_fault, is_opening};
-use message::body::{REQ_NUM_AT, body_fits};
+use message::body::{REQ_NUM_AT, body_ok};
 use message::written::{HEAD, put_init, put_reply};
 use message::{Command, HEADER, Kind, SEQUENCE_AT, TRANSACTION_AT, TYPE_AT, Task};
 use refusal::Refusal;
@@ -302,7 +302,7 @@ impl Session {
         requires { (Bounded lim) × (length s.old ≡ total lim) × (20 ≤ length m.now) × (1032 ≤ length out.old) }
         ensures { Does (judged (type_test (Kind.Asks task) lim m.now s.old) lim self m.now s.old out.old) result.answer result.session s.new out.new }
     {
-        if !body_fits(task, m) {
+        if !body_ok(task, m) {
             return self.drop_with(Session::FORMAT_ERROR, m, out);
         }
         match task {

@@ -18,22 +18,22 @@ use Rattle.lines.specs.Digits.{are_digits, numeral}
 use Rattle.lines.specs.Words.{before, first_from, First}
 use Rattle.lines.specs.declared.words.Class.TheVariants.{LineEnd}
 use Rattle.lines.proofs.HexLaws.{take-least}
-use Rattle.sheet.specs.declared.input.Moment.TheVariants as moment
+use Rattle.sheet.specs.declared.input.Moment.TheVariants as Moment
 use Rattle.sheet.specs.Input.{moment_of, has_zero, is_name, up_to_end, TakesLine}
 
 -- ---- the moment
 
-pub moment_length : (s : List ℕ) → (length s ≡ 8 → ⊥) → moment.Bad ≡ moment_of s
+pub moment_length : (s : List ℕ) → (length s ≡ 8 → ⊥) → Moment.Bad ≡ moment_of s
 unfolding moment_of
 moment_length s h = rw (ne_eqb (length s) 8 h)
 
-pub moment_digits : (s : List ℕ) → length s ≡ 8 → are_digits 16 s ≡ false → moment.Bad ≡ moment_of s
+pub moment_digits : (s : List ℕ) → length s ≡ 8 → are_digits 16 s ≡ false → Moment.Bad ≡ moment_of s
 unfolding moment_of
 moment_digits s h d = rw (eq-eqb (length s) 8 h, d)
 
-pub moment_read : (s : List ℕ) (t : ℕ) → length s ≡ 8 → are_digits 16 s ≡ true → t ≡ numeral 16 0 s → moment.At t ≡ moment_of s
+pub moment_read : (s : List ℕ) (t : ℕ) → length s ≡ 8 → are_digits 16 s ≡ true → t ≡ numeral 16 0 s → Moment.At t ≡ moment_of s
 unfolding moment_of
-moment_read s t h d e = rw (eq-eqb (length s) 8 h, d) (ap moment.At e)
+moment_read s t h d e = rw (eq-eqb (length s) 8 h, d) (ap Moment.At e)
 
 -- ---- names
 

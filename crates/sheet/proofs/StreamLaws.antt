@@ -17,7 +17,7 @@ use Rattle.sheet.proofs.InputLaws.{moment_length, name_long, name_short}
 use Rattle.sheet.specs.Input.{moment_of, is_name, last_line, lines_from, lines_of, up_to_end, has_end, behind_end, Fed, fed, after_line, joined}
 use Rattle.sheet.specs.Report.{Line, begun, name_line, line_of, last_of, text_of, after_lines, report_from, report_of}
 use Rattle.sheet.specs.Claims.{played}
-use Rattle.sheet.specs.declared.input.Moment.TheVariants as moment
+use Rattle.sheet.specs.declared.input.Moment.TheVariants as Moment
 use Rattle.sheet.specs.declared.Report.{Report}
 use Rattle.sheet.specs.declared.Report.TheVariants.{First, Names, Over}
 
@@ -116,7 +116,7 @@ name_same : (line : List ℕ) → is_name (take 256 line) ≡ is_name line
 name_same = held-says is_name false (λ s h. name_long s (λ q. omega arith) h)
 
 moment_same : (line : List ℕ) → moment_of (take 256 line) ≡ moment_of line
-moment_same = held-says moment_of moment.Bad (λ s h. moment_length s (λ q. omega arith))
+moment_same = held-says moment_of Moment.Bad (λ s h. moment_length s (λ q. omega arith))
 
 name_whole : (line : List ℕ) → is_name line ≡ true → take 256 line ≡ line
 name_whole line e = take_all 256 line (omega (arith, name_short line e))

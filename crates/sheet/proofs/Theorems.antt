@@ -10,12 +10,12 @@ use Rattle.depot.specs.Claims.{AddsUp}
 use Rattle.depot.specs.Counts.{counts_of, sum_of}
 use Rattle.depot.specs.declared.Tally.{Tally}
 use Rattle.depot.specs.declared.Counted.{Counted}
-use Rattle.depot.specs.declared.Counted.TheVariants as counted_as
+use Rattle.depot.specs.declared.Counted.TheVariants as CountedAs
 use Rattle.depot.specs.declared.Summed.{Summed}
-use Rattle.depot.specs.declared.Summed.TheVariants as summed-as
+use Rattle.depot.specs.declared.Summed.TheVariants as SummedAs
 use Rattle.depot.proofs.Theorems.{classes-add-up, sums-exactly}
 use Rattle.sheet.specs.declared.input.Moment.{Moment}
-use Rattle.sheet.specs.declared.input.Moment.TheVariants as moment
+use Rattle.sheet.specs.declared.input.Moment.TheVariants as TheMoment
 use Rattle.sheet.specs.declared.Report.{Report}
 use Rattle.sheet.specs.declared.Report.TheVariants.{First, Names, Over}
 use Rattle.sheet.specs.Input.{moment_of, is_name, lines_from}
@@ -85,13 +85,13 @@ sums_in Over = zeros
 module _ (t : ℕ) (s : Tally) (h : AddsUp s) where
   after_store : (name : List ℕ) (c : Tally) → AddsUp c → (z : Summed) → sum_of s c ≡ z → AddsUp (sums_in (store_line t name c z).report)
   unfolding sums_in
-  after_store name c k (summed-as.Sums u) e = subst AddsUp (sym (sums-exactly.only s c u e).1) (omega arith)
-  after_store name c k summed-as.TooLarge e = refl
+  after_store name c k (SummedAs.Sums u) e = subst AddsUp (sym (sums-exactly.only s c u e).1) (omega arith)
+  after_store name c k SummedAs.TooLarge e = refl
 
   after_file : (name file : List ℕ) (z : Counted) → counts_of file t ≡ z → AddsUp (sums_in (file_line t s name z).report)
   unfolding sums_in
-  after_file name file (counted_as.Counts c) e = after_store name c (classes-add-up.of_store file t c e) (sum_of s c) refl
-  after_file name file counted_as.Bad e = h
+  after_file name file (CountedAs.Counts c) e = after_store name c (classes-add-up.of_store file t c e) (sum_of s c) refl
+  after_file name file CountedAs.Bad e = h
 
   after_name : (line file : List ℕ) → AddsUp (sums_in (name_line t s line file).report)
   unfolding sums_in
@@ -103,8 +103,8 @@ module _ (t : ℕ) (s : Tally) (h : AddsUp s) where
 
 after_moment : (m : Moment) → AddsUp (sums_in (begun m).report)
 unfolding sums_in
-after_moment (moment.At t) = refl
-after_moment moment.Bad = refl
+after_moment (TheMoment.At t) = refl
+after_moment TheMoment.Bad = refl
 
 after_line_lem : (r : Report) (line file : List ℕ) → AddsUp (sums_in r) → AddsUp (sums_in (line_of r line file).report)
 unfolding line_of sums_in

@@ -5,7 +5,7 @@ use Rattle.lines.specs.Digits.{are_digits, numeral}
 use Rattle.lines.specs.Words.{before}
 use Rattle.lines.specs.declared.words.Class.TheVariants.{LineEnd}
 use Rattle.sheet.specs.declared.input.Moment.{Moment}
-use Rattle.sheet.specs.declared.input.Moment.TheVariants as moment
+use Rattle.sheet.specs.declared.input.Moment.TheVariants as TheMoment
 use Rattle.sheet.specs.declared.input.Cut.{Cut}
 
 -- ---- lines
@@ -27,7 +27,7 @@ lines_of input = lines_from [] input
 
 -- "T as eight hex digits of either case"
 unfoldable pub moment_of : List ℕ → Moment
-moment_of line = cond (eqb (length line) 8 && are_digits 16 line) (moment.At (numeral 16 0 line)) moment.Bad
+moment_of line = cond (eqb (length line) 8 && are_digits 16 line) (TheMoment.At (numeral 16 0 line)) TheMoment.Bad
 
 -- ---- names
 

@@ -5,11 +5,11 @@ use Rattle.lines.specs.Digits.{Puts}
 use Rattle.depot.specs.Counts.{counts_of, sum_of}
 use Rattle.depot.specs.declared.Tally.{Tally}
 use Rattle.depot.specs.declared.Counted.{Counted}
-use Rattle.depot.specs.declared.Counted.TheVariants as counted_as
+use Rattle.depot.specs.declared.Counted.TheVariants as CountedAs
 use Rattle.depot.specs.declared.Summed.{Summed}
-use Rattle.depot.specs.declared.Summed.TheVariants as summed-as
+use Rattle.depot.specs.declared.Summed.TheVariants as SummedAs
 use Rattle.sheet.specs.declared.input.Moment.{Moment}
-use Rattle.sheet.specs.declared.input.Moment.TheVariants as moment
+use Rattle.sheet.specs.declared.input.Moment.TheVariants as TheMoment
 use Rattle.sheet.specs.declared.Report.{Report}
 use Rattle.sheet.specs.declared.Report.TheVariants.{First, Names, Over}
 use Rattle.sheet.specs.declared.Written.{Written}
@@ -28,18 +28,18 @@ zeros = record { held = 0; fit = 0; ended = 0; early = 0; reversed = 0; peers = 
 
 -- the first: the heading, or `bad moment` and nothing more
 abbrev pub begun : Moment → Line
-begun (moment.At t) = record { text = heading; report = Names t zeros }
-begun moment.Bad = record { text = bad_moment; report = Over }
+begun (TheMoment.At t) = record { text = heading; report = Names t zeros }
+begun TheMoment.Bad = record { text = bad_moment; report = Over }
 
 -- a store with the counts c: its row and the new sums; `sum too large` in place of the row ends the report
 abbrev pub store_line : ℕ → List ℕ → Tally → Summed → Line
-store_line t name c (summed-as.Sums s) = record { text = row name c; report = Names t s }
-store_line t name c summed-as.TooLarge = record { text = sum_too_large; report = Over }
+store_line t name c (SummedAs.Sums s) = record { text = row name c; report = Names t s }
+store_line t name c SummedAs.TooLarge = record { text = sum_too_large; report = Over }
 
 -- a file: a store, or `NAME bad`, which adds nothing
 abbrev pub file_line : ℕ → Tally → List ℕ → Counted → Line
-file_line t sums name (counted_as.Counts c) = store_line t name c (sum_of sums c)
-file_line t sums name counted_as.Bad = record { text = bad_row name; report = Names t sums }
+file_line t sums name (CountedAs.Counts c) = store_line t name c (sum_of sums c)
+file_line t sums name CountedAs.Bad = record { text = bad_row name; report = Names t sums }
 
 -- a name line, with the bytes of the file that it names; `bad` alone where it is no name
 abbrev pub name_line : ℕ → Tally → List ℕ → List ℕ → Line

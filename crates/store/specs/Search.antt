@@ -10,9 +10,9 @@ use Rattle.store.specs.declared.Choice.{Choice}
 use Rattle.store.specs.declared.Edition.{Edition}
 use Rattle.store.specs.declared.Edition.TheVariants.{Known, Unknown}
 use Rattle.store.specs.declared.Found.{Found}
-use Rattle.store.specs.declared.Found.TheVariants as found_as
+use Rattle.store.specs.declared.Found.TheVariants as FoundAs
 use Rattle.store.specs.declared.Emptied.{Emptied}
-use Rattle.store.specs.declared.Emptied.TheVariants as emptied-as
+use Rattle.store.specs.declared.Emptied.TheVariants as EmptiedAs
 
 -- ---- which record is taken
 
@@ -66,8 +66,8 @@ or_else true n f = f
 or_else false n f = unfound n
 
 abbrev pub found_as : Found → Finding
-found_as (found_as.At p e) = found p e
-found_as (found_as.Refused h) = unfound (house_number h)
+found_as (FoundAs.At p e) = found p e
+found_as (FoundAs.Refused h) = unfound (house_number h)
 
 -- the choice among n entries
 abbrev pub placed : Choice → ℕ → Finding
@@ -92,8 +92,8 @@ key s peer t = key_of (find s peer t) s
 -- ---- the empty store: H1
 
 abbrev pub emptied_as : Emptied → Answer
-emptied_as emptied-as.Done = gives 0
-emptied_as (emptied-as.Refused h) = house (house_number h)
+emptied_as EmptiedAs.Done = gives 0
+emptied_as (EmptiedAs.Refused h) = house (house_number h)
 
 -- what empty answers, and what it leaves in the buffer
 unfoldable pub empty_in : Edition → Answer

@@ -63,7 +63,7 @@ fn sums_ok(s: &[u8]) -> bool
 }
 
 // Whether records i and j share issuer and serial.
-fn same_found_key(s: &[u8], i: usize, j: usize) -> bool
+fn same_key(s: &[u8], i: usize, j: usize) -> bool
     requires i_bound { (i < 65536) × (record_at i + 44 ≤ length s.now) }
     requires j_bound { (j < 65536) × (record_at j + 44 ≤ length s.now) }
     ensures { result ≡ same_key s.now i j }
@@ -83,7 +83,7 @@ fn new_key(s: &[u8], i: usize) -> bool
 {
     let mut j = 0;
     while j < i {
-        if same_found_key(s, i, j) {
+        if same_key(s, i, j) {
             return false;
         }
         j += 1;

@@ -10,8 +10,8 @@ use Rattle.refusal.specs.House.{gives}
 use Rattle.table.specs.declared.Connection.{Connection}
 use Rattle.table.specs.declared.State.{State}
 use Rattle.table.specs.declared.Stepped.{Stepped}
-use Rattle.table.specs.declared.Stepped.TheVariants as stepped
-use Rattle.table.specs.declared.ToUser.TheVariants as user
+use Rattle.table.specs.declared.Stepped.TheVariants as TheStepped
+use Rattle.table.specs.declared.ToUser.TheVariants as User
 use Rattle.table.specs.declared.ToTransport.TheVariants.{Quiet}
 use Rattle.table.specs.declared.Timer.TheVariants.{Keep}
 use Rattle.table.specs.Table.{Square, no_action, state_of, square}
@@ -25,21 +25,21 @@ in_state_lem i c s found told = ap (λ (s : State). square (asked i c).event s (
 
 -- in which nothing is done
 pub nothing_in : (i : Input) (s : State) {c : Connection} {out : List ℕ} {answer : Stepped} {then : Connection} {r : State} → 1032 ≤ length out → sendable i ≡ true
-    → r ≡ state_of c.state → r ≡ s → square (asked i c).event s (asked i c).verdict.when ≡ no_action → answer ≡ stepped.Done (acts user.Nothing Quiet Keep 0) → then ≡ c
+    → r ≡ state_of c.state → r ≡ s → square (asked i c).event s (asked i c).verdict.when ≡ no_action → answer ≡ TheStepped.Done (acts User.Nothing Quiet Keep 0) → then ≡ c
     → Does (step i c out) answer then out
 nothing_in i s {c} {out} {answer} {then} room sends found told q p e = does-nothing i c out answer then room sends (in_state_lem i c s found told ∙ q) p e
 
 -- in which the square q is done, and no unit goes out
 pub quiet_in : (i : Input) (s : State) (q : Square) (c : Connection) (out : List ℕ) {answer : Stepped} {then : Connection} {r : State} → 1032 ≤ length out → sendable i ≡ true
     → r ≡ state_of c.state → r ≡ s → square (asked i c).event s (asked i c).verdict.when ≡ q → starts_set_up q.down ≡ false → carried q.down (asked i c) ≡ []
-    → answer ≡ stepped.Done (acts (to_user q.up (asked i c).verdict) q.down q.timer 0) → then ≡ after q.next c (asked i c).about → Does (step i c out) answer then out
+    → answer ≡ TheStepped.Done (acts (to_user q.up (asked i c).verdict) q.down q.timer 0) → then ≡ after q.next c (asked i c).about → Does (step i c out) answer then out
 quiet_in i s q c out room sends found told e f n p a =
     does-quiet q (asked i c) c out (step-performs i c out q 0 room sends (in_state_lem i c s found told ∙ e) (ap (λ (b : Bool). cond b (asked i c).search (gives 0)) f)) n p a
 
 -- and a unit goes out
 pub sent_in : (i : Input) (s : State) (q : Square) (c : Connection) (out : List ℕ) {answer : Stepped} {then : Connection} {written : List ℕ} {r : State} → 1032 ≤ length out → sendable i ≡ true
     → r ≡ state_of c.state → r ≡ s → square (asked i c).event s (asked i c).verdict.when ≡ q → starts_set_up q.down ≡ false
-    → answer ≡ stepped.Done (acts (to_user q.up (asked i c).verdict) q.down q.timer (length (carried q.down (asked i c)))) → then ≡ after q.next c (asked i c).about
+    → answer ≡ TheStepped.Done (acts (to_user q.up (asked i c).verdict) q.down q.timer (length (carried q.down (asked i c)))) → then ≡ after q.next c (asked i c).about
     → written ≡ splice out 0 (carried q.down (asked i c)) → Does (step i c out) answer then written
 sent_in i s q c out {answer} {then} {written} room sends found told e f p a w =
     does-performed i c out q 0 answer then written room sends (in_state_lem i c s found told ∙ e) (ap (λ (b : Bool). cond b (asked i c).search (gives 0)) f) p a w

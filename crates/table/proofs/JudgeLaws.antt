@@ -13,7 +13,7 @@ use Rattle.table.specs.declared.Connection.{Connection}
 use Rattle.table.specs.declared.Kind.TheVariants.{Au3, Ar}
 use Rattle.table.specs.declared.State.{State}
 use Rattle.table.specs.declared.State.TheVariants.{IDLE, WFTC, WFAR, WFAU3}
-use Rattle.table.specs.declared.ToUser.TheVariants as user
+use Rattle.table.specs.declared.ToUser.TheVariants as User
 use Rattle.table.specs.declared.ToTransport.TheVariants.{TConnReq, TConnResp, SendAu3}
 use Rattle.table.specs.Table.{SaConnReq, TConnInd, TConnConf, AU3, AR, table, state_of, row_in, square}
 use Rattle.table.specs.Steps.{unless, typed, judged_unit, confirmed, Input, connect_request, connect_indication, unit_indication, asked, to_user}
@@ -40,24 +40,24 @@ fine-au2 Fine e = refl
 fine-au2 (Bad r s) e = let z : ◌≡◌ {A = ℕ} 0 1 = cc in absurd (omega arith)
 
 fine-au3 : (c : Connection) (unit : List ℕ) (s : State) → s ≡ WFAU3
-    → to_user (square AU3 s (judged_unit Au3 s c unit).when).up (judged_unit Au3 s c unit) ≡ user.ConnectIndication → au3_fault c.key c.own c.ra c.rb unit ≡ Fine
+    → to_user (square AU3 s (judged_unit Au3 s c unit).when).up (judged_unit Au3 s c unit) ≡ User.ConnectIndication → au3_fault c.key c.own c.ra c.rb unit ≡ Fine
 unfolding judged_unit square row_in table
 fine-au3 c unit s h e =
     go (au3_fault c.key c.own c.ra c.rb unit)
-    (subst (λ (s : State). to_user (square AU3 s (judged_unit Au3 s c unit).when).up (judged_unit Au3 s c unit) ≡ user.ConnectIndication) h e)
+    (subst (λ (s : State). to_user (square AU3 s (judged_unit Au3 s c unit).when).up (judged_unit Au3 s c unit) ≡ User.ConnectIndication) h e)
   where
-    go : (f : Fault) → to_user (square AU3 WFAU3 (unless 3 f).when).up (unless 3 f) ≡ user.ConnectIndication → f ≡ Fine
+    go : (f : Fault) → to_user (square AU3 WFAU3 (unless 3 f).when).up (unless 3 f) ≡ User.ConnectIndication → f ≡ Fine
     go Fine e = refl
     go (Bad r s) e = let z : ◌≡◌ {A = ℕ} 0 1 = cc in absurd (omega arith)
 
 fine-ar : (c : Connection) (unit : List ℕ) (s : State) → s ≡ WFAR
-    → to_user (square AR s (judged_unit Ar s c unit).when).up (judged_unit Ar s c unit) ≡ user.ConnectConfirmation → ar_fault c.key c.own unit ≡ Fine
+    → to_user (square AR s (judged_unit Ar s c unit).when).up (judged_unit Ar s c unit) ≡ User.ConnectConfirmation → ar_fault c.key c.own unit ≡ Fine
 unfolding judged_unit square row_in table
 fine-ar c unit s h e =
     go (ar_fault c.key c.own unit)
-    (subst (λ (s : State). to_user (square AR s (judged_unit Ar s c unit).when).up (judged_unit Ar s c unit) ≡ user.ConnectConfirmation) h e)
+    (subst (λ (s : State). to_user (square AR s (judged_unit Ar s c unit).when).up (judged_unit Ar s c unit) ≡ User.ConnectConfirmation) h e)
   where
-    go : (f : Fault) → to_user (square AR WFAR (unless 4 f).when).up (unless 4 f) ≡ user.ConnectConfirmation → f ≡ Fine
+    go : (f : Fault) → to_user (square AR WFAR (unless 4 f).when).up (unless 4 f) ≡ User.ConnectConfirmation → f ≡ Fine
     go Fine e = refl
     go (Bad r s) e = let z : ◌≡◌ {A = ℕ} 0 1 = cc in absurd (omega arith)
 
@@ -110,22 +110,22 @@ au3_sent i c h =
     let f = fine-au2 g (subst (λ (s : State). (square TConnConf s (unless 2 g).when).down ≡ SendAu3) r.1 d) in
     record { unit = unit; event_is = e; in-WFTC = r.1; built = λ bytes. units_are_built.au2 key c.own c.peer c.rb unit bytes f }
 
-indicated : (i : Input) (c : Connection) → to_user (meets i c).up (asked i c).verdict ≡ user.ConnectIndication
+indicated : (i : Input) (c : Connection) → to_user (meets i c).up (asked i c).verdict ≡ User.ConnectIndication
     → (state_of c.state ≡ WFAU3) × (i ≡ unit_indication Au3 (au3_unit c.key c.own c.ra c.rb))
 unfolding asked table
 indicated i c h =
-    let r = user_in AU3 WFAU3 user.ConnectIndication refl i c h in
+    let r = user_in AU3 WFAU3 User.ConnectIndication refl i c h in
     let (unit, e) = input_of AU3 i c r.0 in
-    let d = subst (λ (i : Input). to_user (meets i c).up (asked i c).verdict ≡ user.ConnectIndication) e h in
+    let d = subst (λ (i : Input). to_user (meets i c).up (asked i c).verdict ≡ User.ConnectIndication) e h in
     (r.1, e ∙ ap (unit_indication Au3) (units_are_built.au3 c.key c.own c.ra c.rb unit (fine-au3 c unit (state_of c.state) r.1 d)))
 
-answered : (i : Input) (c : Connection) → to_user (meets i c).up (asked i c).verdict ≡ user.ConnectConfirmation
+answered : (i : Input) (c : Connection) → to_user (meets i c).up (asked i c).verdict ≡ User.ConnectConfirmation
     → (state_of c.state ≡ WFAR) × (i ≡ unit_indication Ar (ar_unit c.key c.own))
 unfolding asked table
 answered i c h =
-    let r = user_in AR WFAR user.ConnectConfirmation refl i c h in
+    let r = user_in AR WFAR User.ConnectConfirmation refl i c h in
     let (unit, e) = input_of AR i c r.0 in
-    let d = subst (λ (i : Input). to_user (meets i c).up (asked i c).verdict ≡ user.ConnectConfirmation) e h in
+    let d = subst (λ (i : Input). to_user (meets i c).up (asked i c).verdict ≡ User.ConnectConfirmation) e h in
     (r.1, e ∙ ap (unit_indication Ar) (units_are_built.ar c.key c.own unit (fine-ar c unit (state_of c.state) r.1 d)))
 
 pub predicates_judge : PredicatesJudge
@@ -134,6 +134,6 @@ predicates_judge =
       au1_sent = λ i c out a e h. au1_sent i c (transport_is i c out a TConnReq e h);
       au2_sent = λ i c out a e h. au2_sent i c (transport_is i c out a TConnResp e h);
       au3_sent = λ i c out a e h. au3_sent i c (transport_is i c out a SendAu3 e h);
-      indicated = λ i c out a e h. indicated i c (user_is i c out a user.ConnectIndication e h);
-      confirmed = λ i c out a e h. answered i c (user_is i c out a user.ConnectConfirmation e h);
+      indicated = λ i c out a e h. indicated i c (user_is i c out a User.ConnectIndication e h);
+      confirmed = λ i c out a e h. answered i c (user_is i c out a User.ConnectConfirmation e h);
     }

@@ -12,7 +12,7 @@ use Rattle.table.specs.declared.Actions.{Actions}
 use Rattle.table.specs.declared.Kind.TheVariants.{Au3, Ar, Dt}
 use Rattle.table.specs.declared.State.{State}
 use Rattle.table.specs.declared.ToUser.{ToUser}
-use Rattle.table.specs.declared.ToUser.TheVariants as user
+use Rattle.table.specs.declared.ToUser.TheVariants as User
 use Rattle.table.specs.declared.ToTransport.{ToTransport}
 use Rattle.table.specs.declared.ToTransport.TheVariants.{Quiet, TConnReq, TConnResp, TDiscReq, TDiscReqDi, SendAu3, SendAr, SendDt}
 use Rattle.table.specs.Table.{Event, SaConnReq, SaConnResp, SaDataReq, SaDiscReq, TConnInd, TConnConf, TDiscInd, AU3, AR, DT, TimeOut, Up, no, SaConnInd, SaConnConf, SaDataInd, SaDiscInd, SaReportInd, Square, state_of, is, event_code}
@@ -77,7 +77,7 @@ input_of e i c h = subst (λ (e : Event). InputOf e i) h (input i c)
 
 abbrev user_of : Answered → ToUser
 user_of (done a) = a.user
-user_of (refused n) = user.Nothing
+user_of (refused n) = User.Nothing
 
 abbrev transport_of : Answered → ToTransport
 transport_of (done a) = a.transport
@@ -103,12 +103,12 @@ up_code SaDiscInd = 4
 up_code SaReportInd = 5
 
 abbrev pub user_code : ToUser → ℕ
-user_code user.Nothing = 0
-user_code user.ConnectIndication = 1
-user_code user.ConnectConfirmation = 2
-user_code (user.DataIndication n) = 3
-user_code (user.DisconnectIndication reason sub) = 4
-user_code (user.ReportIndication reason sub) = 5
+user_code User.Nothing = 0
+user_code User.ConnectIndication = 1
+user_code User.ConnectConfirmation = 2
+user_code (User.DataIndication n) = 3
+user_code (User.DisconnectIndication reason sub) = 4
+user_code (User.ReportIndication reason sub) = 5
 
 up-code : (u : Up) (v : Verdict) → up_code u ≡ user_code (to_user u v)
 up-code no v = refl

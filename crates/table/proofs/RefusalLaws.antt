@@ -18,7 +18,7 @@ use Rattle.store.specs.declared.Edition.TheVariants.{Known, Unknown}
 use Rattle.store.specs.Layout.{edition_of}
 use Rattle.store.specs.Store.{entries, sound}
 use Rattle.store.specs.Search.{Finding, place_in, or_else, chosen, find_in}
-use Rattle.store.specs.Search as held
+use Rattle.store.specs.Search as Held
 use Rattle.store.proofs.Theorems.{unsound-exactly, no-key-exactly}
 use Rattle.units.specs.declared.Fault.{Fault}
 use Rattle.units.specs.declared.Fault.TheVariants.{Fine}
@@ -40,10 +40,10 @@ use Rattle.table.proofs.JudgeLaws.{au1_sent, au2_sent}
 
 -- H1, H12 and H11 alone
 found-numbers : (store : List ℕ) (own peer t n : ℕ) → found store own peer t ≡ house n → (n ≡ 1) ⊎ ((n ≡ 12) ⊎ (n ≡ 11))
-unfolding found held.find find_in
+unfolding found Held.find find_in
 found-numbers store own peer t n e = of_edition (edition_of (length store)) (leb (type_of own) 7 && leb (type_of peer) 7) e
   where
-    of_tests : (x y b : Bool) (place end : ℕ) → if_types b (place_in (or_else x 12 (or_else y 11 (held.found place end)))) ≡ house n → (n ≡ 1) ⊎ ((n ≡ 12) ⊎ (n ≡ 11))
+    of_tests : (x y b : Bool) (place end : ℕ) → if_types b (place_in (or_else x 12 (or_else y 11 (Held.found place end)))) ≡ house n → (n ≡ 1) ⊎ ((n ≡ 12) ⊎ (n ≡ 11))
     of_tests false y b place end e = inr (inl (cc))
     of_tests true false b place end e = inr (inr (cc))
     of_tests true true false place end e = inr (inr (cc))
@@ -53,23 +53,23 @@ found-numbers store own peer t n e = of_edition (edition_of (length store)) (leb
     of_edition Unknown b e = inl (cc)
     of_edition (Known L) b e = of_tests (sound L store) (ltb (chosen peer t (entries L store)).place (length (entries L store))) b _ _ e
 
-found-unfound : (store : List ℕ) (own peer t n : ℕ) → held.find store peer t ≡ held.unfound n → found store own peer t ≡ house n
+found-unfound : (store : List ℕ) (own peer t n : ℕ) → Held.find store peer t ≡ Held.unfound n → found store own peer t ≡ house n
 unfolding found
 found-unfound store own peer t n e = ap (λ (f : Finding). if_types (leb (type_of own) 7 && leb (type_of peer) 7) (place_in f)) e
 
-unknown-store : (store : List ℕ) (peer t : ℕ) → edition_of (length store) ≡ Unknown → held.find store peer t ≡ held.unfound 1
-unfolding held.find find_in
+unknown-store : (store : List ℕ) (peer t : ℕ) → edition_of (length store) ≡ Unknown → Held.find store peer t ≡ Held.unfound 1
+unfolding Held.find find_in
 unknown-store store peer t e = ap (λ (E : Edition). find_in E store peer t) e
 
 -- over a sound store a type over 7 is H11 whether a key serves or not
 type_over : (L : Limits) (store : List ℕ) (own peer t : ℕ) → edition_of (length store) ≡ Known L → sound L store ≡ true → (leb (type_of own) 7 && leb (type_of peer) 7) ≡ false
     → found store own peer t ≡ house 11
-unfolding found held.find find_in
+unfolding found Held.find find_in
 type_over L store own peer t e s b =
-    ap (λ (b : Bool). if_types b (place_in (held.find store peer t))) b ∙ ap (λ (E : Edition). if_types false (place_in (find_in E store peer t))) e
+    ap (λ (b : Bool). if_types b (place_in (Held.find store peer t))) b ∙ ap (λ (E : Edition). if_types false (place_in (find_in E store peer t))) e
     ∙ of_tests (sound L store) (ltb (chosen peer t (entries L store)).place (length (entries L store))) _ _ s
   where
-    of_tests : (x y : Bool) (place end : ℕ) → x ≡ true → if_types false (place_in (or_else x 12 (or_else y 11 (held.found place end)))) ≡ house 11
+    of_tests : (x y : Bool) (place end : ℕ) → x ≡ true → if_types false (place_in (or_else x 12 (or_else y 11 (Held.found place end)))) ≡ house 11
     of_tests true true place end h = refl
     of_tests true false place end h = refl
     of_tests false y place end h = clash false h refl
@@ -85,7 +85,7 @@ unfolding square row_in table
 indication-row = refl
 
 of_caller : (own peer t : ℕ) (rb store : List ℕ)
-    → SearchDecides (connect_request true own peer t rb store) (found store own peer t) (calling own peer rb (held.key store peer t))
+    → SearchDecides (connect_request true own peer t rb store) (found store own peer t) (calling own peer rb (Held.key store peer t))
 unfolding asked perform
 of_caller own peer t rb store =
     let i = connect_request true own peer t rb store in
@@ -98,7 +98,7 @@ of_caller own peer t rb store =
 
 of_called : (own t : ℕ) (ra unit store : List ℕ) → au1_fault unit ≡ Fine
     → SearchDecides (connect_indication true own t ra unit store) (found store own (sender_of unit) t)
-    (called own (sender_of unit) ra (random unit) (held.key store (sender_of unit) t))
+    (called own (sender_of unit) ra (random unit) (Held.key store (sender_of unit) t))
 unfolding asked perform
 of_called own t ra unit store g =
     let i = connect_indication true own t ra unit store in

@@ -16,7 +16,7 @@ use Rattle.refusal.specs.declared.Refusal.{Refusal}
 use Rattle.refusal.specs.House.{Answer, house, gives, asks, unless_refused, house_number}
 use Rattle.store.specs.Store.{HasPlace, kmac_at}
 use Rattle.store.specs.Search.{Finding, place_in}
-use Rattle.store.specs.Search as held
+use Rattle.store.specs.Search as Held
 use Rattle.store.proofs.Theorems.{whole-key}
 use Rattle.authentication.specs.declared.Derived.{Derived}
 use Rattle.authentication.specs.Keys.{session_keys, derived, Derives}
@@ -28,8 +28,8 @@ use Rattle.units.proofs.Theorems.{two-halves}
 use Rattle.table.specs.declared.Connection.{Connection}
 use Rattle.table.specs.declared.State.TheVariants.{IDLE, WFTC, WFAR, DATA, WFAU3, WFRESP}
 use Rattle.table.specs.declared.Stepped.{Stepped}
-use Rattle.table.specs.declared.Stepped.TheVariants as stepped
-use Rattle.table.specs.declared.ToUser.TheVariants as user
+use Rattle.table.specs.declared.Stepped.TheVariants as TheStepped
+use Rattle.table.specs.declared.ToUser.TheVariants as User
 use Rattle.table.specs.declared.ToTransport.TheVariants.{Quiet, TConnReq, TConnResp, TDiscReq, TDiscReqDi, SendAu3, SendAr}
 use Rattle.table.specs.declared.Timer.TheVariants.{Keep, Set, StopAll}
 use Rattle.table.specs.declared.search.Searched.{Searched}
@@ -55,48 +55,48 @@ second_type_decides own peer x y e h f =
 
 module _ (store : List ℕ) (own peer t : ℕ) where
   -- what the store's search answers, and whether the types can be served
-  pub found-by : (place end : ℕ) (r b : Bool) → held.found place end ≡ held.find store peer t → r ≡ (leb (type_of own) 7 && leb (type_of peer) 7) → r ≡ b
+  pub found-by : (place end : ℕ) (r b : Bool) → Held.found place end ≡ Held.find store peer t → r ≡ (leb (type_of own) 7 && leb (type_of peer) 7) → r ≡ b
       → if_types b (gives place) ≡ found store own peer t
   unfolding found
   found-by place end r b e d h =
       ap (λ (b : Bool). if_types b (gives place)) (sym h ∙ d) ∙ ap (λ (f : Finding). if_types (leb (type_of own) 7 && leb (type_of peer) 7) (place_in f)) e
 
-  pub unfound-by : (n : ℕ) → held.unfound n ≡ held.find store peer t → house n ≡ found store own peer t
+  pub unfound-by : (n : ℕ) → Held.unfound n ≡ Held.find store peer t → house n ≡ found store own peer t
   unfolding found
   unfound-by n e = ap (λ (f : Finding). if_types (leb (type_of own) 7 && leb (type_of peer) 7) (place_in f)) e
 
   -- where set-up starts, the own type has three bits
   served : (f : Finding) (a b : Bool) (n : ℕ) → if_types (a && b) (place_in f) ≡ gives n → a ≡ true
   served f true b n e = refl
-  served (held.found place end) false b n e = let z : ◌≡◌ {A = ℕ} 0 1 = cc in absurd (omega arith)
-  served (held.unfound m) false b n e = let z : ◌≡◌ {A = ℕ} 0 1 = cc in absurd (omega arith)
+  served (Held.found place end) false b n e = let z : ◌≡◌ {A = ℕ} 0 1 = cc in absurd (omega arith)
+  served (Held.unfound m) false b n e = let z : ◌≡◌ {A = ℕ} 0 1 = cc in absurd (omega arith)
 
   type_served : (n : ℕ) → found store own peer t ≡ gives n → type_of own ≤ 7
   unfolding found
-  type_served n e = leb-true (type_of own) 7 (served (held.find store peer t) (leb (type_of own) 7) (leb (type_of peer) 7) n e)
+  type_served n e = leb-true (type_of own) 7 (served (Held.find store peer t) (leb (type_of own) 7) (leb (type_of peer) 7) n e)
 
   -- and so has that of the connection that was made
   pub made_type : {made about : Connection} (n : ℕ) → found store own peer t ≡ gives n → made ≡ about → about.own ≡ own → type_of made.own ≤ 7
   made_type n f e o = omega (arith, type_served n f, ap (λ (m : Connection). m.own) e)
 
   -- and the store's search gave the place
-  placed_by : (f : Finding) (b : Bool) (n : ℕ) → if_types b (place_in f) ≡ gives n → (end : ℕ) × (f ≡ held.found n end)
-  placed_by (held.found place end) true n e = (end, cc)
-  placed_by (held.found place end) false n e = let z : ◌≡◌ {A = ℕ} 0 1 = cc in absurd (omega arith)
-  placed_by (held.unfound m) b n e = let z : ◌≡◌ {A = ℕ} 0 1 = cc in absurd (omega arith)
+  placed_by : (f : Finding) (b : Bool) (n : ℕ) → if_types b (place_in f) ≡ gives n → (end : ℕ) × (f ≡ Held.found n end)
+  placed_by (Held.found place end) true n e = (end, cc)
+  placed_by (Held.found place end) false n e = let z : ◌≡◌ {A = ℕ} 0 1 = cc in absurd (omega arith)
+  placed_by (Held.unfound m) b n e = let z : ◌≡◌ {A = ℕ} 0 1 = cc in absurd (omega arith)
 
-  place_found : (n : ℕ) → found store own peer t ≡ gives n → (end : ℕ) × (held.find store peer t ≡ held.found n end)
+  place_found : (n : ℕ) → found store own peer t ≡ gives n → (end : ℕ) × (Held.find store peer t ≡ Held.found n end)
   unfolding found
-  place_found n e = placed_by (held.find store peer t) (leb (type_of own) 7 && leb (type_of peer) 7) n e
+  place_found n e = placed_by (Held.find store peer t) (leb (type_of own) 7 && leb (type_of peer) 7) n e
 
   -- it lies in the store, and the key is the KMAC there
   pub place_inside : (n : ℕ) → found store own peer t ≡ gives n → HasPlace store n
   place_inside n e = let p = place_found n e in whole-key.inside store peer t n p.0 p.1
 
-  pub key-there : (n : ℕ) → found store own peer t ≡ gives n → held.key store peer t ≡ kmac_at store (n - 1)
+  pub key-there : (n : ℕ) → found store own peer t ≡ gives n → Held.key store peer t ≡ kmac_at store (n - 1)
   key-there n e = let p = place_found n e in whole-key.there store peer t n p.0 p.1
 
-  pub key-whole : (n : ℕ) → found store own peer t ≡ gives n → length (held.key store peer t) ≡ 24
+  pub key-whole : (n : ℕ) → found store own peer t ≡ gives n → length (Held.key store peer t) ≡ 24
   key-whole n e = let p = place_found n e in whole-key.long store peer t n p.0 p.1
 
 -- ---- keys
@@ -115,7 +115,7 @@ keys-made kmac ra rb l d =
 
 -- no application type, or a wrong one
 pub request_untyped : (acceptable : Bool) (own peer t : ℕ) (rb store : List ℕ) (c : Connection) (out : List ℕ) {answer : Stepped} {then : Connection} → 1032 ≤ length out
-    → state_of c.state ≡ IDLE → not acceptable ≡ true → answer ≡ stepped.Done (acts (user.DisconnectIndication 3 127) Quiet Keep 0) → then ≡ idle
+    → state_of c.state ≡ IDLE → not acceptable ≡ true → answer ≡ TheStepped.Done (acts (User.DisconnectIndication 3 127) Quiet Keep 0) → then ≡ idle
     → Does (step (connect_request acceptable own peer t rb store) c out) answer then out
 unfolding asked carried square row_in table
 request_untyped true own peer t rb store c out room at wrong p e = clash false wrong refl
@@ -124,7 +124,7 @@ request_untyped false own peer t rb store c out room at wrong p e =
 
 -- the search refuses
 pub request-refused : (acceptable : Bool) (own peer t : ℕ) (rb store : List ℕ) (c : Connection) (out : List ℕ) (h : Refusal) {answer : Stepped} {then : Connection} → 1032 ≤ length out
-    → state_of c.state ≡ IDLE → not acceptable ≡ false → found store own peer t ≡ house (house_number h) → answer ≡ stepped.Refused h → then ≡ c
+    → state_of c.state ≡ IDLE → not acceptable ≡ false → found store own peer t ≡ house (house_number h) → answer ≡ TheStepped.Refused h → then ≡ c
     → Does (step (connect_request acceptable own peer t rb store) c out) answer then out
 unfolding asked square row_in table
 request-refused false own peer t rb store c out h room at right f p e = clash true refl right
@@ -135,15 +135,15 @@ request-refused true own peer t rb store c out h {answer} {then} room at right f
 -- AU1 goes out
 pub request-sent : (acceptable : Bool) (own peer t : ℕ) (rb store : List ℕ) (c : Connection) (out : List ℕ) (n : ℕ) {answer : Stepped} {then made : Connection} {kmac written : List ℕ}
     → 1032 ≤ length out → state_of c.state ≡ IDLE → not acceptable ≡ false → length rb ≡ 8 → found store own peer t ≡ gives n → kmac ≡ kmac_at store (n - 1)
-    → made ≡ calling own peer rb kmac → answer ≡ stepped.Done (acts user.Nothing TConnReq Set 13) → then ≡ made → written ≡ splice out 0 (au1_unit made.own made.rb)
+    → made ≡ calling own peer rb kmac → answer ≡ TheStepped.Done (acts User.Nothing TConnReq Set 13) → then ≡ made → written ≡ splice out 0 (au1_unit made.own made.rb)
     → Does (step (connect_request acceptable own peer t rb store) c out) answer then written
 unfolding asked carried square row_in table
 request-sent false own peer t rb store c out n room at right l f k m p e w = clash true refl right
 request-sent true own peer t rb store c out n {answer} {then} {made} {kmac} {written} room at right l f k m p e w =
     let i = connect_request true own peer t rb store in
-    let about : made ≡ calling own peer rb (held.key store peer t) = m ∙ ap (λ (k : List ℕ). calling own peer rb k) (k ∙ sym (key-there store own peer t n f)) in
+    let about : made ≡ calling own peer rb (Held.key store peer t) = m ∙ ap (λ (k : List ℕ). calling own peer rb k) (k ∙ sym (key-there store own peer t n f)) in
     does-performed i c out (square_of no TConnReq Set (to WFTC)) n answer then written room refl (in_state_lem i c IDLE refl at) f
-    (p ∙ ap (λ (n : ℕ). stepped.Done (acts user.Nothing TConnReq Set n)) (sym (length-au1 own rb l)))
+    (p ∙ ap (λ (n : ℕ). TheStepped.Done (acts User.Nothing TConnReq Set n)) (sym (length-au1 own rb l)))
     (e ∙ about) (w ∙ ap (λ (m : Connection). splice out 0 (au1_unit m.own m.rb)) about)
 
 -- ---- T-CONN.ind in IDLE
@@ -155,20 +155,20 @@ typed-fine false f e = let z : ◌≡◌ {A = ℕ} 0 1 = cc in absurd (omega ari
 
 -- the application type, or the AU1, is wrong
 pub indication_faulty : (acceptable : Bool) (own t : ℕ) (ra unit store : List ℕ) (c : Connection) (out : List ℕ) (reason sub : ℕ) {answer : Stepped} {then : Connection} {written : List ℕ}
-    → 1032 ≤ length out → state_of c.state ≡ IDLE → typed acceptable (au1_fault unit) ≡ Bad reason sub → answer ≡ stepped.Done (acts user.Nothing TDiscReqDi Keep 3) → then ≡ idle
+    → 1032 ≤ length out → state_of c.state ≡ IDLE → typed acceptable (au1_fault unit) ≡ Bad reason sub → answer ≡ TheStepped.Done (acts User.Nothing TDiscReqDi Keep 3) → then ≡ idle
     → written ≡ splice out 0 (di_unit true reason sub) → Does (step (connect_indication acceptable own t ra unit store) c out) answer then written
 unfolding asked carried square row_in table
 indication_faulty acceptable own t ra unit store c out reason sub room at f p e w =
     let di : Fault → List ℕ = λ f. di_unit true (unless 1 f).why.reason (unless 1 f).why.sub in
     sent_in (connect_indication acceptable own t ra unit store) IDLE (square_of no TDiscReqDi Keep (to IDLE)) c out room refl refl at
     (ap (λ (f : Fault). square TConnInd IDLE (unless 1 f).when) f) refl
-    (p ∙ ap (λ (n : ℕ). stepped.Done (acts user.Nothing TDiscReqDi Keep n)) (sym (length-di true reason sub) ∙ sym (ap (λ (f : Fault). length (di f)) f)))
+    (p ∙ ap (λ (n : ℕ). TheStepped.Done (acts User.Nothing TDiscReqDi Keep n)) (sym (length-di true reason sub) ∙ sym (ap (λ (f : Fault). length (di f)) f)))
     e (w ∙ sym (ap (λ (f : Fault). splice out 0 (di f)) f))
 
 module _ (own t : ℕ) (ra unit store : List ℕ) (c : Connection) (out : List ℕ) (room : 1032 ≤ length out) (at : state_of c.state ≡ IDLE) (fine : au1_fault unit ≡ Fine) where
   -- the search refuses
   pub indication-refused : (h : Refusal) {answer : Stepped} {then : Connection} {peer : ℕ} → peer ≡ sender_of unit → found store own peer t ≡ house (house_number h)
-      → answer ≡ stepped.Refused h → then ≡ c → Does (step (connect_indication true own t ra unit store) c out) answer then out
+      → answer ≡ TheStepped.Refused h → then ≡ c → Does (step (connect_indication true own t ra unit store) c out) answer then out
   unfolding asked square row_in table
   indication-refused h {answer} {then} s f p e =
       let i = connect_indication true own t ra unit store in
@@ -180,18 +180,18 @@ module _ (own t : ℕ) (ra unit store : List ℕ) (c : Connection) (out : List �
 
   -- AU2 goes out
   pub indication-answered : (n : ℕ) {answer : Stepped} {then made : Connection} {rb kmac written : List ℕ} {peer : ℕ} → length ra ≡ 8 → peer ≡ sender_of unit → found store own peer t ≡ gives n
-      → rb ≡ random unit → kmac ≡ kmac_at store (n - 1) → made ≡ called own peer ra rb kmac → answer ≡ stepped.Done (acts user.Nothing TConnResp Keep 21) → then ≡ made
+      → rb ≡ random unit → kmac ≡ kmac_at store (n - 1) → made ≡ called own peer ra rb kmac → answer ≡ TheStepped.Done (acts User.Nothing TConnResp Keep 21) → then ≡ made
       → written ≡ splice out 0 (au2_unit made.key made.own made.peer made.ra made.rb) → Does (step (connect_indication true own t ra unit store) c out) answer then written
   unfolding asked carried square row_in table
   indication-answered n {answer} {then} {made} {rb} {kmac} {written} {peer} l s f r k m p e w =
       let i = connect_indication true own t ra unit store in
-      let keyed : made ≡ called own peer ra rb (held.key store peer t) = m ∙ ap (λ (k : List ℕ). called own peer ra rb k) (k ∙ sym (key-there store own peer t n f)) in
-      let read : made ≡ called own peer ra (random unit) (held.key store peer t) = keyed ∙ ap (λ (r : List ℕ). called own peer ra r (held.key store peer t)) r in
-      let about : made ≡ called own (sender_of unit) ra (random unit) (held.key store (sender_of unit) t) = read ∙ ap (λ (x : ℕ). called own x ra (random unit) (held.key store x t)) s in
+      let keyed : made ≡ called own peer ra rb (Held.key store peer t) = m ∙ ap (λ (k : List ℕ). called own peer ra rb k) (k ∙ sym (key-there store own peer t n f)) in
+      let read : made ≡ called own peer ra (random unit) (Held.key store peer t) = keyed ∙ ap (λ (r : List ℕ). called own peer ra r (Held.key store peer t)) r in
+      let about : made ≡ called own (sender_of unit) ra (random unit) (Held.key store (sender_of unit) t) = read ∙ ap (λ (x : ℕ). called own x ra (random unit) (Held.key store x t)) s in
       does-performed i c out (square_of no TConnResp Keep (to WFAU3)) n answer then written room refl
       (in_state_lem i c IDLE refl at ∙ ap (λ (f : Fault). square TConnInd IDLE (unless 1 f).when) fine)
       (sym (ap (λ (x : ℕ). found store own x t) s) ∙ f)
-      (p ∙ ap (λ (n : ℕ). stepped.Done (acts user.Nothing TConnResp Keep n)) (sym (length-au2 _ own (sender_of unit) ra (random unit) l)))
+      (p ∙ ap (λ (n : ℕ). TheStepped.Done (acts User.Nothing TConnResp Keep n)) (sym (length-au2 _ own (sender_of unit) ra (random unit) l)))
       (e ∙ about) (w ∙ ap (λ (m : Connection). splice out 0 (au2_unit m.key m.own m.peer m.ra m.rb)) about)
 
 -- ---- T-CONN.conf in WFTC
@@ -217,31 +217,31 @@ module _ (unit : List ℕ) (c : Connection) where
 
 module _ (unit : List ℕ) (c : Connection) (out : List ℕ) (room : 1032 ≤ length out) (at : state_of c.state ≡ WFTC) where
   -- the AU2 is wrong
-  pub confirmation_faulty : (reason sub : ℕ) {answer : Stepped} {then : Connection} → au2 unit c ≡ Bad reason sub → answer ≡ stepped.Done (acts (user.DisconnectIndication reason sub) TDiscReq StopAll 0)
+  pub confirmation_faulty : (reason sub : ℕ) {answer : Stepped} {then : Connection} → au2 unit c ≡ Bad reason sub → answer ≡ TheStepped.Done (acts (User.DisconnectIndication reason sub) TDiscReq StopAll 0)
       → then ≡ idle → Does (step (connect_confirmation unit) c out) answer then out
   unfolding asked carried square row_in table
   confirmation_faulty reason sub f p e =
       quiet_in (connect_confirmation unit) WFTC (square_of SaDiscInd TDiscReq StopAll (to IDLE)) c out room refl refl at (ap (λ (f : Fault). square TConnConf WFTC (unless 2 f).when) f) refl refl
-      (p ∙ sym (ap (λ (f : Fault). stepped.Done (acts (to_user SaDiscInd (unless 2 f)) TDiscReq StopAll 0)) f))
+      (p ∙ sym (ap (λ (f : Fault). TheStepped.Done (acts (to_user SaDiscInd (unless 2 f)) TDiscReq StopAll 0)) f))
       e
 
   -- AU3 goes out
   pub confirmation_answered : {answer : Stepped} {then made : Connection} {ra written : List ℕ} → au2 unit c ≡ Fine → ra ≡ random unit → made ≡ confirmed c ra
-      → answer ≡ stepped.Done (acts user.Nothing SendAu3 Keep 9) → then ≡ with_state made (state_code WFAR) → written ≡ splice out 0 (au3_unit made.key made.peer made.ra made.rb)
+      → answer ≡ TheStepped.Done (acts User.Nothing SendAu3 Keep 9) → then ≡ with_state made (state_code WFAR) → written ≡ splice out 0 (au3_unit made.key made.peer made.ra made.rb)
       → Does (step (connect_confirmation unit) c out) answer then written
   unfolding asked carried square row_in table
   confirmation_answered {answer} {then} {made} f r m p e w =
       let about : made ≡ confirmed c (random unit) = m ∙ ap (λ (r : List ℕ). confirmed c r) r in
       sent_in (connect_confirmation unit) WFTC (square_of no SendAu3 Keep (to WFAR)) c out room refl refl at (ap (λ (f : Fault). square TConnConf WFTC (unless 2 f).when) f) refl
-      (p ∙ ap (λ (n : ℕ). stepped.Done (acts user.Nothing SendAu3 Keep n)) (sym (length-au3 _ c.peer (random unit) c.rb)))
+      (p ∙ ap (λ (n : ℕ). TheStepped.Done (acts User.Nothing SendAu3 Keep n)) (sym (length-au3 _ c.peer (random unit) c.rb)))
       (e ∙ ap (λ (m : Connection). with_state m (state_code WFAR)) about)
       (w ∙ ap (λ (m : Connection). splice out 0 (au3_unit m.key m.peer m.ra m.rb)) about)
 
 -- ---- Sa-CONN.resp in WFRESP: AR goes out
 
 pub response_sent : (c : Connection) (out : List ℕ) {answer : Stepped} {then : Connection} {written : List ℕ} → 1032 ≤ length out → state_of c.state ≡ WFRESP
-    → answer ≡ stepped.Done (acts user.Nothing SendAr Keep 9) → then ≡ with_state c (state_code DATA) → written ≡ splice out 0 (ar_unit c.key c.peer) → Does (step connect_response c out) answer then written
+    → answer ≡ TheStepped.Done (acts User.Nothing SendAr Keep 9) → then ≡ with_state c (state_code DATA) → written ≡ splice out 0 (ar_unit c.key c.peer) → Does (step connect_response c out) answer then written
 unfolding asked carried square row_in table
 response_sent c out room at p e w =
     sent_in connect_response WFRESP (square_of no SendAr Keep (to DATA)) c out room refl refl at refl refl
-    (p ∙ ap (λ (n : ℕ). stepped.Done (acts user.Nothing SendAr Keep n)) (sym (length-ar c.key c.peer))) e w
+    (p ∙ ap (λ (n : ℕ). TheStepped.Done (acts User.Nothing SendAr Keep n)) (sym (length-ar c.key c.peer))) e w

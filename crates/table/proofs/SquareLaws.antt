@@ -16,7 +16,7 @@ use Rattle.table.specs.declared.Kind.{Kind}
 use Rattle.table.specs.declared.Kind.TheVariants.{Dt}
 use Rattle.table.specs.declared.State.{State}
 use Rattle.table.specs.declared.State.TheVariants.{IDLE, WFTC, WFAR, DATA, WFAU3, WFRESP}
-use Rattle.table.specs.declared.ToUser.TheVariants as user
+use Rattle.table.specs.declared.ToUser.TheVariants as User
 use Rattle.table.specs.declared.ToTransport.TheVariants.{Quiet, TDiscReqDi}
 use Rattle.table.specs.declared.Timer.TheVariants.{Keep}
 use Rattle.table.specs.Table.{SaConnReq, TConnInd, DT, ok, pre, SaDataInd, SaDiscInd, SaReportInd, to, Square, square_of, a19, table, state_code, state_of, row_in, filled, no_action, protocol_error, blank, square}
@@ -46,7 +46,7 @@ no_action_lem : (i : Input) (c : Connection) (out : List ℕ) → NoUnit i → f
 unfolding perform carried
 no_action_lem i c out f h l s =
     step-performs i c out no_action 0 l s (blank-square (asked i c).event (state_of c.state) (asked i c).verdict.when h ∙ plain-blank i c f) refl
-    ∙ ap (λ (o : List ℕ). record { answer = done (acts user.Nothing Quiet Keep 0); connection = c; output = o }) (splice-none out 0)
+    ∙ ap (λ (o : List ℕ). record { answer = done (acts User.Nothing Quiet Keep 0); connection = c; output = o }) (splice-none out 0)
 
 protocol_error_lem : (k : Kind) (unit : List ℕ) (c : Connection) (out : List ℕ) → filled table (kind_event k) (state_of c.state) ≡ false → 1032 ≤ length out
     → Follows (unit_indication k unit) c out (protocol_error (state_of c.state))
@@ -110,12 +110,12 @@ module _ (c : Connection) (unit out : List ℕ) (running : c.state ≡ state_cod
   goes_on_lem x = ap₂ (λ (n : ℕ) (o : List ℕ). record { answer = x; connection = with_state c n; output = o }) (sym running) (splice-none out 0)
 
   taken : (n : ℕ) → data_answer c unit ≡ gives n
-      → step (unit_indication Dt unit) c out ≡ record { answer = done (acts (user.DataIndication n) Quiet Keep 0); connection = c; output = out }
+      → step (unit_indication Dt unit) c out ≡ record { answer = done (acts (User.DataIndication n) Quiet Keep 0); connection = c; output = out }
   unfolding square row_in table perform carried
   taken n e = in_row (record { when = ok; why = code 0 0; count = n }) (square_of SaDataInd Quiet Keep (to DATA)) (dt-accepted c unit n e) refl refl ∙ goes_on_lem _
 
   reported : data_answer c unit ≡ house 8
-      → step (unit_indication Dt unit) c out ≡ record { answer = done (acts (user.ReportIndication 4 1) Quiet Keep 0); connection = c; output = out }
+      → step (unit_indication Dt unit) c out ≡ record { answer = done (acts (User.ReportIndication 4 1) Quiet Keep 0); connection = c; output = out }
   unfolding square row_in table perform carried
   reported e = in_row (because (pre 5) (code 4 1)) (square_of SaReportInd Quiet Keep (to DATA)) (dt-reported c unit 8 e refl refl) refl refl ∙ goes_on_lem _
 

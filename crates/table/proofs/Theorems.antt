@@ -8,7 +8,7 @@ use Rattle.refusal.proofs.Laws.{one_each, named, named_back}
 use Rattle.authentication.specs.Unit.{message, unit_of}
 use Rattle.units.specs.Units.{au3_unit, ar_unit}
 use Rattle.table.specs.declared.Stepped.{Stepped}
-use Rattle.table.specs.declared.Stepped.TheVariants as stepped
+use Rattle.table.specs.declared.Stepped.TheVariants as TheStepped
 use Rattle.table.specs.declared.Kind.TheVariants.{Dt}
 use Rattle.table.specs.Steps.{kind_of, Answered, done, refused, stepped_as}
 use Rattle.table.specs.Claims.{KindOf, TableFollowed, OneAnswer}
@@ -40,13 +40,13 @@ table-followed = record { followed = step_follows; picked = picked }
 -- ---- one answer
 
 meant : Answered → Stepped
-meant (done a) = stepped.Done a
-meant (refused n) = stepped.Refused (named n)
+meant (done a) = TheStepped.Done a
+meant (refused n) = TheStepped.Refused (named n)
 
 meant-back : (r : Stepped) → meant (stepped_as r) ≡ r
 unfolding meant
-meant-back (stepped.Done a) = refl
-meant-back (stepped.Refused h) = ap stepped.Refused (named_back h)
+meant-back (TheStepped.Done a) = refl
+meant-back (TheStepped.Refused h) = ap TheStepped.Refused (named_back h)
 
 pub one_answer : OneAnswer
 one_answer = record { of_step = one_each stepped_as meant meant-back }

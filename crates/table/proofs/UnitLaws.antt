@@ -25,7 +25,7 @@ use Rattle.table.specs.declared.State.TheVariants.{IDLE, WFTC, WFAR, DATA, WFAU3
 use Rattle.table.specs.declared.ToTransport.TheVariants.{Quiet, TDiscReqDi}
 use Rattle.table.specs.declared.Timer.TheVariants.{Keep}
 use Rattle.table.specs.declared.Stepped.{Stepped}
-use Rattle.table.specs.declared.Stepped.TheVariants as stepped
+use Rattle.table.specs.declared.Stepped.TheVariants as TheStepped
 use Rattle.table.specs.Table.{Square, square_of, DT, ok, pre, SaDataInd, SaDiscInd, SaReportInd, a19, to, state_code, state_of, is, protocol_error, blank, filled, square, row_in, table}
 use Rattle.table.specs.Steps.{Verdict, good, because, unless, out_of_sequence, judged_data, kind_of, plain, kind_event, judged_unit, unit_indication, asked, starts_set_up, carried, acts, to_user, after, perform, step, Outcome, up_data, handed_up, Does}
 use Rattle.table.specs.Parts.{unawaited}
@@ -46,12 +46,12 @@ unit_steps k s v q c unit out room e j f g =
 -- and nothing goes out to the transport, or a unit does
 pub unit-quiet : (k : Kind) (s : State) (v : Verdict) (q : Square) (c : Connection) (unit out : List ℕ) {answer : Stepped} {then : Connection} → 1032 ≤ length out → state_of c.state ≡ s
     → judged_unit k s c unit ≡ v → square (kind_event k) s v.when ≡ q → starts_set_up q.down ≡ false → carried q.down (plain (kind_event k) v c) ≡ []
-    → answer ≡ stepped.Done (acts (to_user q.up v) q.down q.timer 0) → then ≡ after q.next c c → Does (step (unit_indication k unit) c out) answer then out
+    → answer ≡ TheStepped.Done (acts (to_user q.up v) q.down q.timer 0) → then ≡ after q.next c c → Does (step (unit_indication k unit) c out) answer then out
 unit-quiet k s v q c unit out room e j f g n p a = does-quiet q (plain (kind_event k) v c) c out (unit_steps k s v q c unit out room e j f g) n p a
 
 pub unit-sent : (k : Kind) (s : State) (v : Verdict) (q : Square) (c : Connection) (unit out : List ℕ) {answer : Stepped} {then : Connection} {written : List ℕ} → 1032 ≤ length out
     → state_of c.state ≡ s → judged_unit k s c unit ≡ v → square (kind_event k) s v.when ≡ q → starts_set_up q.down ≡ false
-    → answer ≡ stepped.Done (acts (to_user q.up v) q.down q.timer (length (carried q.down (plain (kind_event k) v c)))) → then ≡ after q.next c c
+    → answer ≡ TheStepped.Done (acts (to_user q.up v) q.down q.timer (length (carried q.down (plain (kind_event k) v c)))) → then ≡ after q.next c c
     → written ≡ splice out 0 (carried q.down (plain (kind_event k) v c)) → Does (step (unit_indication k unit) c out) answer then written
 unit-sent k s v q c unit out {answer} {then} {written} room e j f g p a w =
     does-perform q (plain (kind_event k) v c) c out (step (unit_indication k unit) c out) answer then written (unit_steps k s v q c unit out room e j f g) p a w
@@ -103,13 +103,13 @@ unawaited_steps k c unit out room h j =
 -- what the code hands back for one: without a unit, and with one
 pub error_quiet : (k : Kind) (s : State) (c : Connection) (out : List ℕ) {r : State} {answer : Stepped} {then : Connection} → r ≡ state_of c.state → r ≡ s
     → carried (protocol_error s).down (plain (kind_event k) (because ok (out_of_sequence s k)) c) ≡ []
-    → answer ≡ stepped.Done (acts (to_user (protocol_error s).up (because ok (out_of_sequence s k))) (protocol_error s).down (protocol_error s).timer 0)
+    → answer ≡ TheStepped.Done (acts (to_user (protocol_error s).up (because ok (out_of_sequence s k))) (protocol_error s).down (protocol_error s).timer 0)
     → then ≡ after (protocol_error s).next c c → Does (unawaited k (state_of c.state) c out) answer then out
 error_quiet k s c out found told n p a =
     does-quiet (protocol_error s) (plain (kind_event k) (because ok (out_of_sequence s k)) c) c out (ap (λ (s : State). unawaited k s c out) (sym found ∙ told)) n p a
 
 pub error_sent : (k : Kind) (s : State) (c : Connection) (out : List ℕ) {r : State} {answer : Stepped} {then : Connection} {written : List ℕ} → r ≡ state_of c.state → r ≡ s
-    → answer ≡ stepped.Done (acts (to_user (protocol_error s).up (because ok (out_of_sequence s k))) (protocol_error s).down (protocol_error s).timer
+    → answer ≡ TheStepped.Done (acts (to_user (protocol_error s).up (because ok (out_of_sequence s k))) (protocol_error s).down (protocol_error s).timer
     (length (carried (protocol_error s).down (plain (kind_event k) (because ok (out_of_sequence s k)) c))))
     → then ≡ after (protocol_error s).next c c → written ≡ splice out 0 (carried (protocol_error s).down (plain (kind_event k) (because ok (out_of_sequence s k)) c))
     → Does (unawaited k (state_of c.state) c out) answer then written

@@ -8,7 +8,7 @@ use Rattle.store.specs.declared.Limits.{Limits}
 use Rattle.store.specs.declared.Edition.TheVariants.{Known, Unknown}
 use Rattle.store.specs.Layout.{edition_of}
 use Rattle.store.specs.Store.{entries, sound}
-use Rattle.store.specs.Search as held
+use Rattle.store.specs.Search as Held
 use Rattle.store.specs.Claims.{NoneServes}
 use Rattle.authentication.specs.Keys.{session_keys}
 use Rattle.authentication.specs.Mac.{mac}
@@ -24,7 +24,7 @@ use Rattle.table.specs.declared.Kind.{Kind}
 use Rattle.table.specs.declared.Kind.TheVariants.{Au3, Ar, Dt}
 use Rattle.table.specs.declared.State.{State}
 use Rattle.table.specs.declared.State.TheVariants.{IDLE, WFTC, WFAR, DATA, WFAU3, WFRESP}
-use Rattle.table.specs.declared.ToUser.TheVariants as user
+use Rattle.table.specs.declared.ToUser.TheVariants as User
 use Rattle.table.specs.declared.ToTransport.{ToTransport}
 use Rattle.table.specs.declared.ToTransport.TheVariants.{Quiet, TConnReq, TConnResp, TDiscReq, TDiscReqDi, SendAu3, SendAr, SendDt}
 use Rattle.table.specs.declared.Timer.TheVariants.{Keep}
@@ -66,9 +66,9 @@ pub record PredicatesJudge : Type 0 where
   pub au1_sent : (i : Input) (c : Connection) (out : List ℕ) (a : Actions) → (step i c out).answer ≡ done a → a.transport ≡ TConnReq → Calls i c
   pub au2_sent : (i : Input) (c : Connection) (out : List ℕ) (a : Actions) → (step i c out).answer ≡ done a → a.transport ≡ TConnResp → CalledBy i c
   pub au3_sent : (i : Input) (c : Connection) (out : List ℕ) (a : Actions) → (step i c out).answer ≡ done a → a.transport ≡ SendAu3 → ConfirmedBy i c
-  pub indicated : (i : Input) (c : Connection) (out : List ℕ) (a : Actions) → (step i c out).answer ≡ done a → a.user ≡ user.ConnectIndication
+  pub indicated : (i : Input) (c : Connection) (out : List ℕ) (a : Actions) → (step i c out).answer ≡ done a → a.user ≡ User.ConnectIndication
       → (state_of c.state ≡ WFAU3) × (i ≡ unit_indication Au3 (au3_unit c.key c.own c.ra c.rb))
-  pub confirmed : (i : Input) (c : Connection) (out : List ℕ) (a : Actions) → (step i c out).answer ≡ done a → a.user ≡ user.ConnectConfirmation
+  pub confirmed : (i : Input) (c : Connection) (out : List ℕ) (a : Actions) → (step i c out).answer ≡ done a → a.user ≡ User.ConnectConfirmation
       → (state_of c.state ≡ WFAR) × (i ≡ unit_indication Ar (ar_unit c.key c.own))
 
 -- ---- "the AU1, AU2, AU3, AR, DT and DI units of 6.2.5"
@@ -115,7 +115,7 @@ data_answer c unit = checked unit c.key (etcs_id c.own) (not c.responder)
 abbrev pub closing : Connection → Code → List ℕ → Outcome
 closing c why out =
     record {
-      answer = done (acts (user.DisconnectIndication why.reason why.sub) TDiscReqDi a19 3);
+      answer = done (acts (User.DisconnectIndication why.reason why.sub) TDiscReqDi a19 3);
       connection = idle;
       output = splice out 0 (di_unit c.responder why.reason why.sub);
     }
@@ -124,10 +124,10 @@ closing c why out =
 pub record CountedAs : Type 0 where
   -- neither: Sa-DATA.ind with the length of the user data
   pub accepted : (c : Connection) (unit out : List ℕ) (n : ℕ) → c.state ≡ state_code DATA → 1032 ≤ length out → data_answer c unit ≡ gives n
-      → step (unit_indication Dt unit) c out ≡ record { answer = done (acts (user.DataIndication n) Quiet Keep 0); connection = c; output = out }
+      → step (unit_indication Dt unit) c out ≡ record { answer = done (acts (User.DataIndication n) Quiet Keep 0); connection = c; output = out }
   -- Pre5: Sa-REPORT.ind, DATA
   pub h8 : (c : Connection) (unit out : List ℕ) → c.state ≡ state_code DATA → 1032 ≤ length out → data_answer c unit ≡ house 8
-      → step (unit_indication Dt unit) c out ≡ record { answer = done (acts (user.ReportIndication 4 1) Quiet Keep 0); connection = c; output = out }
+      → step (unit_indication Dt unit) c out ≡ record { answer = done (acts (User.ReportIndication 4 1) Quiet Keep 0); connection = c; output = out }
   -- Pre6
   pub h7 : (c : Connection) (unit out : List ℕ) → c.state ≡ state_code DATA → 1032 ≤ length out → data_answer c unit ≡ house 7
       → step (unit_indication Dt unit) c out ≡ closing c (code 10 5) out
@@ -139,7 +139,7 @@ pub record CountedAs : Type 0 where
 -- ---- "blank squares follow 6.2.6.3.2"
 
 abbrev pub unmoved : Connection → List ℕ → Outcome
-unmoved c out = record { answer = done (acts user.Nothing Quiet Keep 0); connection = c; output = out }
+unmoved c out = record { answer = done (acts User.Nothing Quiet Keep 0); connection = c; output = out }
 
 -- no unit that T-DATA.ind brings
 abbrev pub NoUnit : Input → Type 0
@@ -173,7 +173,7 @@ pub record CheckedData (i : Input) (c : Connection) (n : ℕ) : Type 0 where
 
 -- whatever the event: where user data go up. Of which session the key is, `connections` claims of whole runs
 pub record DataOnlyChecked : Type 0 where
-  pub only : (i : Input) (c : Connection) (out : List ℕ) (a : Actions) (n : ℕ) → (step i c out).answer ≡ done a → a.user ≡ user.DataIndication n → CheckedData i c n
+  pub only : (i : Input) (c : Connection) (out : List ℕ) (a : Actions) (n : ℕ) → (step i c out).answer ≡ done a → a.user ≡ User.DataIndication n → CheckedData i c n
 
 -- ---- "random numbers are inputs": RB comes with Sa-CONN.req, and RA with T-CONN.ind (`Input`)
 
@@ -202,10 +202,10 @@ pub record SearchDecides (i : Input) (search : Answer) (new : Connection) : Type
 
 pub record SearchRefuses : Type 0 where
   pub of_caller : (own peer t : ℕ) (rb store : List ℕ)
-      → SearchDecides (connect_request true own peer t rb store) (found store own peer t) (calling own peer rb (held.key store peer t))
+      → SearchDecides (connect_request true own peer t rb store) (found store own peer t) (calling own peer rb (Held.key store peer t))
   pub of_called : (own t : ℕ) (ra unit store : List ℕ) → au1_fault unit ≡ Fine
       → SearchDecides (connect_indication true own t ra unit store) (found store own (sender_of unit) t)
-      (called own (sender_of unit) ra (random unit) (held.key store (sender_of unit) t))
+      (called own (sender_of unit) ra (random unit) (Held.key store (sender_of unit) t))
   -- H1, H12, H11, in this order
   pub h1 : (store : List ℕ) (own peer t : ℕ) → edition_of (length store) ≡ Unknown → found store own peer t ≡ house 1
   pub h12 : (L : Limits) (store : List ℕ) (own peer t : ℕ) → edition_of (length store) ≡ Known L → sound L store ≡ false → found store own peer t ≡ house 12
@@ -216,7 +216,7 @@ pub record SearchRefuses : Type 0 where
       → (7 < type_of own) ⊎ (7 < type_of peer) → found store own peer t ≡ house 11
   -- no other refusal; and where a key serves and both types are at most 7, none
   pub only : (store : List ℕ) (own peer t n : ℕ) → found store own peer t ≡ house n → (n ≡ 1) ⊎ ((n ≡ 12) ⊎ (n ≡ 11))
-  pub searched : (store : List ℕ) (own peer t place end : ℕ) → held.find store peer t ≡ held.found place end → type_of own ≤ 7 → type_of peer ≤ 7
+  pub searched : (store : List ℕ) (own peer t place end : ℕ) → Held.find store peer t ≡ Held.found place end → type_of own ≤ 7 → type_of peer ≤ 7
       → found store own peer t ≡ gives place
   -- and where set-up does not start, no refusal but H2 and H10
   pub only_there : (i : Input) (c : Connection) (out : List ℕ) (n : ℕ) → (step i c out).answer ≡ refused n → (n ≡ 2) ⊎ ((n ≡ 10) ⊎ (Calls i c ⊎ CalledBy i c))

@@ -6,14 +6,14 @@ use Rattle.table.specs.declared.Connection.{Connection}
 use Rattle.table.specs.declared.Kind.{Kind}
 use Rattle.table.specs.declared.State.{State}
 use Rattle.table.specs.declared.search.Searched.{Searched}
-use Rattle.table.specs.declared.search.Searched.TheVariants as searched-as
+use Rattle.table.specs.declared.search.Searched.TheVariants as SearchedAs
 use Rattle.table.specs.Table.{ok, protocol_error}
 use Rattle.table.specs.Steps.{Outcome, because, out_of_sequence, plain, kind_event, perform}
 
 -- the answer of the search in the paper's numbers
 abbrev pub searched_as : Searched → Answer
-searched_as (searched-as.At n) = gives n
-searched_as (searched-as.Refused h) = house (house_number h)
+searched_as (SearchedAs.At n) = gives n
+searched_as (SearchedAs.Refused h) = house (house_number h)
 
 -- a unit of this kind in a state that does not wait for it: the treatment of protocol errors
 abbrev pub unawaited : Kind → State → Connection → List ℕ → Outcome

@@ -4,7 +4,7 @@ use Rattle.std.specs.Prelude.{◌≡◌, Bool, true, false, ◌&&◌, not, cond,
 use Rattle.octets.specs.Bytes.{between, part, splice}
 use Rattle.refusal.specs.House.{Answer, house, gives, house_number}
 use Rattle.store.specs.Search.{place_in}
-use Rattle.store.specs.Search as held
+use Rattle.store.specs.Search as Held
 use Rattle.authentication.specs.Keys.{session_keys}
 use Rattle.authentication.specs.Unit.{unit_of, checked}
 use Rattle.units.specs.declared.Fault.{Fault}
@@ -15,13 +15,13 @@ use Rattle.table.specs.declared.Connection.{Connection}
 use Rattle.table.specs.declared.Kind.{Kind}
 use Rattle.table.specs.declared.Kind.TheVariants.{Au3, Ar, Dt}
 use Rattle.table.specs.declared.ToUser.{ToUser}
-use Rattle.table.specs.declared.ToUser.TheVariants as user
+use Rattle.table.specs.declared.ToUser.TheVariants as User
 use Rattle.table.specs.declared.ToTransport.{ToTransport}
 use Rattle.table.specs.declared.ToTransport.TheVariants.{Quiet, TConnReq, TConnResp, TDiscReq, TDiscReqDi, SendAu3, SendAr, SendDt}
 use Rattle.table.specs.declared.Timer.{Timer}
 use Rattle.table.specs.declared.Actions.{Actions}
 use Rattle.table.specs.declared.Stepped.{Stepped}
-use Rattle.table.specs.declared.Stepped.TheVariants as stepped-as
+use Rattle.table.specs.declared.Stepped.TheVariants as SteppedAs
 use Rattle.table.specs.declared.State.{State}
 use Rattle.table.specs.declared.State.TheVariants.{IDLE, WFTC, WFAR, DATA, WFAU3, WFRESP}
 use Rattle.table.specs.Table.{Event, SaConnReq, SaConnResp, SaDataReq, SaDiscReq, TConnInd, TConnConf, TDiscInd, AU3, AR, DT, TimeOut, Judged, ok, pre, Up, no, SaConnInd, SaConnConf, SaDataInd, SaDiscInd, SaReportInd, Next, stays, to, Square, state_code, state_of, is, square}
@@ -111,7 +111,7 @@ if_types true (gives n) = gives n
 if_types false (gives n) = house 11
 
 unfoldable pub found : List ℕ → ℕ → ℕ → ℕ → Answer
-found store own peer t = if_types (leb (type_of own) 7 && leb (type_of peer) 7) (place_in (held.find store peer t))
+found store own peer t = if_types (leb (type_of own) 7 && leb (type_of peer) 7) (place_in (Held.find store peer t))
 
 -- ---- events with what they bring
 
@@ -151,7 +151,7 @@ asked (connect_request acceptable own peer t rb store) c =
       event = SaConnReq;
       verdict = unless 0 (typed acceptable Fine);
       search = found store own peer t;
-      about = calling own peer rb (held.key store peer t);
+      about = calling own peer rb (Held.key store peer t);
       sent = [];
     }
 asked connect_response c = plain SaConnResp good c
@@ -162,7 +162,7 @@ asked (connect_indication acceptable own t ra unit store) c =
       event = TConnInd;
       verdict = unless 1 (typed acceptable (au1_fault unit));
       search = found store own (sender_of unit) t;
-      about = called own (sender_of unit) ra (random unit) (held.key store (sender_of unit) t);
+      about = called own (sender_of unit) ra (random unit) (Held.key store (sender_of unit) t);
       sent = [];
     }
 asked (connect_confirmation unit) c =
@@ -209,12 +209,12 @@ starts_set_up SendAr = false
 starts_set_up SendDt = false
 
 abbrev pub to_user : Up → Verdict → ToUser
-to_user no v = user.Nothing
-to_user SaConnInd v = user.ConnectIndication
-to_user SaConnConf v = user.ConnectConfirmation
-to_user SaDataInd v = user.DataIndication v.count
-to_user SaDiscInd v = user.DisconnectIndication v.why.reason v.why.sub
-to_user SaReportInd v = user.ReportIndication v.why.reason v.why.sub
+to_user no v = User.Nothing
+to_user SaConnInd v = User.ConnectIndication
+to_user SaConnConf v = User.ConnectConfirmation
+to_user SaDataInd v = User.DataIndication v.count
+to_user SaDiscInd v = User.DisconnectIndication v.why.reason v.why.sub
+to_user SaReportInd v = User.ReportIndication v.why.reason v.why.sub
 
 -- the connection in its next state; in IDLE nothing is left of it
 abbrev pub with_state : Connection → ℕ → Connection
@@ -269,12 +269,12 @@ step i c out = cond (leb 1032 (length out)) (cond (sendable i) (at_table (asked 
 
 -- the user data that go up: the part of the unit behind its first byte
 abbrev pub up_data : ToUser → List ℕ → List ℕ
-up_data (user.DataIndication n) unit = part unit 1 n
-up_data user.Nothing unit = []
-up_data user.ConnectIndication unit = []
-up_data user.ConnectConfirmation unit = []
-up_data (user.DisconnectIndication r s) unit = []
-up_data (user.ReportIndication r s) unit = []
+up_data (User.DataIndication n) unit = part unit 1 n
+up_data User.Nothing unit = []
+up_data User.ConnectIndication unit = []
+up_data User.ConnectConfirmation unit = []
+up_data (User.DisconnectIndication r s) unit = []
+up_data (User.ReportIndication r s) unit = []
 
 abbrev pub handed_up : Answered → List ℕ → List ℕ
 handed_up (done a) unit = up_data a.user unit
@@ -284,8 +284,8 @@ handed_up (refused n) unit = []
 
 -- the answer in the paper's numbers
 abbrev pub stepped_as : Stepped → Answered
-stepped_as (stepped-as.Done a) = done a
-stepped_as (stepped-as.Refused h) = refused (house_number h)
+stepped_as (SteppedAs.Done a) = done a
+stepped_as (SteppedAs.Refused h) = refused (house_number h)
 
 -- the answer, the connection and every byte of the output are those of an outcome
 pub record Does (o : Outcome) (answer : Stepped) (connection : Connection) (output : List ℕ) : Type 0 where

@@ -10,8 +10,8 @@ use Rattle.octets.proofs.BoolLaws.{test-holds, test_fails}
 use Rattle.authentication.proofs.UnitLaws.{length-unit}
 use Rattle.units.specs.Units.{etcs_id}
 use Rattle.table.specs.declared.State.TheVariants.{IDLE, WFTC, WFAR, DATA, WFAU3, WFRESP}
-use Rattle.table.specs.declared.Stepped.TheVariants as stepped
-use Rattle.table.specs.declared.ToUser.TheVariants as user
+use Rattle.table.specs.declared.Stepped.TheVariants as Stepped
+use Rattle.table.specs.declared.ToUser.TheVariants as User
 use Rattle.table.specs.declared.ToTransport.TheVariants.{SendDt}
 use Rattle.table.specs.declared.Timer.TheVariants.{Keep}
 use Rattle.table.specs.Table.{no, to, square_of, square, row_in, table}
@@ -120,7 +120,7 @@ returns-6 c =
     let a = start.args in
     sent_in (data_request a.user.now) DATA (square_of no SendDt Keep (to DATA)) _ _ tested.before.before.if1.false (sendable tested) at.state-of.ensures told.enum-told4.given.1 refl refl
     (k.send-dt.ensures.0
-    ∙ ap (λ (n : ℕ). stepped.Done (acts user.Nothing SendDt Keep n)) (sym (length-unit a.c.key (etcs_id a.c.peer) a.c.responder a.user.now)))
+    ∙ ap (λ (n : ℕ). Stepped.Done (acts User.Nothing SendDt Keep n)) (sym (length-unit a.c.key (etcs_id a.c.peer) a.c.responder a.user.now)))
     k.send-dt.ensures.1 k.send-dt.ensures.2
 
 returns-7 : tie.Need-returns-7

@@ -7,7 +7,7 @@ use Rattle.table.specs.declared.Kind.{Kind}
 use Rattle.table.specs.declared.Stepped.{Stepped}
 use Rattle.table.specs.Steps.{Input, connect_request, connect_indication, unit_indication, step, Does}
 use Rattle.lines.specs.declared.connections.Event.{Event}
-use Rattle.lines.specs.declared.connections.Event.TheVariants as event
+use Rattle.lines.specs.declared.connections.Event.TheVariants as TheEvent
 use Rattle.console.specs.Connections.{input_of}
 use Rattle.console.proofs.connections.step_of.Statement.{statement}
 use Rattle.console.proofs.connections.step_of.Tie as tie
@@ -106,7 +106,7 @@ returns c =
     let told = rb.before.before.event.given in
     let at = rb.before.before.before.before in
     let a = at.before.before.before.before.args in
-    does at (event.Call told.0.0 told.0.1.0 told.0.1.1.0) _ told.1
+    does at (TheEvent.Call told.0.0 told.0.1.0 told.0.1.1.0) _ told.1
     (ap (λ (x : List ℕ). connect_request true a.side.own told.0.0 told.0.1.0 x a.store.now) rb.store.ensures)
     call.request.ensures
 
@@ -120,7 +120,7 @@ returns-2 c =
     let told = ra.before.before.event2.given in
     let at = ra.before.before.before.before in
     let a = at.before.before.before.before.args in
-    does at (event.Indicate told.0.0 told.0.1.0) _ told.1
+    does at (TheEvent.Indicate told.0.0 told.0.1.0) _ told.1
     (ap (λ (x : List ℕ). connect_indication true a.side.own told.0.0 x a.bytes.now a.store.now) ra.store2.ensures)
     call.indicated.ensures
 
@@ -131,7 +131,7 @@ returns-3 : tie.Need-returns-3
 returns-3 c =
     let call = c.before.before in
     let told = call.before.before in
-    does told.before.before event.Confirm _ told.enum_told.given.1 refl call.confirmed.ensures
+    does told.before.before TheEvent.Confirm _ told.enum_told.given.1 refl call.confirmed.ensures
 
 same-length-4 : tie.Need-same-length-4
 same-length-4 c = search rules
@@ -143,7 +143,7 @@ returns-4 c =
     let told = kind.before.before.event3.given in
     let at = kind.before.before.before.before in
     let a = at.before.before.before.before.args in
-    does at (event.Bring told.0.0) _ told.1 (ap (λ (x : Kind). unit_indication x a.bytes.now) kind.kind-numbered.ensures) call.unit.ensures
+    does at (TheEvent.Bring told.0.0) _ told.1 (ap (λ (x : Kind). unit_indication x a.bytes.now) kind.kind-numbered.ensures) call.unit.ensures
 
 same-length-5 : tie.Need-same-length-5
 same-length-5 c = search rules
@@ -152,7 +152,7 @@ returns-5 : tie.Need-returns-5
 returns-5 c =
     let call = c.before.before in
     let told = call.before.before in
-    does told.before.before event.Respond _ told.enum-told2.given.1 refl call.respond.ensures
+    does told.before.before TheEvent.Respond _ told.enum-told2.given.1 refl call.respond.ensures
 
 same-length-6 : tie.Need-same-length-6
 same-length-6 c = search rules
@@ -161,7 +161,7 @@ returns-6 : tie.Need-returns-6
 returns-6 c =
     let call = c.before.before in
     let told = call.before.before in
-    does told.before.before event.Say _ told.enum-told3.given.1 refl call.send.ensures
+    does told.before.before TheEvent.Say _ told.enum-told3.given.1 refl call.send.ensures
 
 same-length-7 : tie.Need-same-length-7
 same-length-7 c = search rules
@@ -171,7 +171,7 @@ returns-7 c =
     let call = c.before.before in
     let known = call.before.before.before in
     let told = known.event4.given in
-    does known.before.before (event.Release told.0.0 told.0.1.0) _ told.1 refl call.release.ensures
+    does known.before.before (TheEvent.Release told.0.0 told.0.1.0) _ told.1 refl call.release.ensures
 
 same-length-8 : tie.Need-same-length-8
 same-length-8 c = search rules
@@ -181,7 +181,7 @@ returns-8 c =
     let call = c.before.before in
     let known = call.before.before.before.before in
     let told = known.event5.given in
-    does known.before.before (event.Lost told.0.0) _ told.1 refl call.disconnected.ensures
+    does known.before.before (TheEvent.Lost told.0.0) _ told.1 refl call.disconnected.ensures
 
 same-length-9 : tie.Need-same-length-9
 same-length-9 c = search rules
@@ -190,7 +190,7 @@ returns-9 : tie.Need-returns-9
 returns-9 c =
     let call = c.before.before in
     let told = call.before.before in
-    does told.before.before event.End _ told.enum-told4.given.1 refl call.disconnected2.ensures
+    does told.before.before TheEvent.End _ told.enum-told4.given.1 refl call.disconnected2.ensures
 
 same-length-10 : tie.Need-same-length-10
 same-length-10 c = search rules
@@ -199,7 +199,7 @@ returns-10 : tie.Need-returns-10
 returns-10 c =
     let call = c.before.before in
     let told = call.before.before in
-    does told.before.before event.Late _ told.enum-told5.given.1 refl call.time-out.ensures
+    does told.before.before TheEvent.Late _ told.enum-told5.given.1 refl call.time-out.ensures
 
 pub step-of-spec : {M : Type 1} → statement M
 step-of-spec =

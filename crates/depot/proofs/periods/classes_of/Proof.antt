@@ -55,7 +55,7 @@ loop-again c =
       omega arith,
       loop.loop.invariant.1,
       loop.loop.invariant.2,
-      classes_turn a.lim a.s.now a.t number_at.number_at.result loop.loop.i loop.loop.c c.one_more_lem.result class-at.class-at.result (omega arith) loop.loop.invariant.0 loop.loop.invariant.3 class-at.class-at.ensures c.one_more_lem.ensures,
+      classes_turn a.lim a.s.now a.t number_at.number_at.result loop.loop.i loop.loop.c c.one_more.result class-at.class-at.result (omega arith) loop.loop.invariant.0 loop.loop.invariant.3 class-at.class-at.ensures c.one_more.ensures,
     )
 
 returns : tie.Need-returns invariant-loop decreases-loop

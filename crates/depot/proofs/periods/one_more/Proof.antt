@@ -1,10 +1,10 @@
--- `depot::periods::one_more_lem` meets its contract.
+-- `depot::periods::one_more` meets its contract.
 -- Assumes nothing.
 use mathlib.Core.Path.{sym, ap}
 use Rattle.depot.specs.Counts.{one_more}
 use borrow.Author.Rules.{rules}
-use Rattle.depot.proofs.periods.one_more_lem.Statement.{statement}
-use Rattle.depot.proofs.periods.one_more_lem.Tie as tie
+use Rattle.depot.proofs.periods.one_more.Statement.{statement}
+use Rattle.depot.proofs.periods.one_more.Tie as tie
 
 enum_told : tie.Need-enum-told
 enum_told c = search rules

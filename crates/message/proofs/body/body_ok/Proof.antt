@@ -1,12 +1,12 @@
--- `message::body::body_fits` meets its contract.
+-- `message::body::body_ok` meets its contract.
 -- Assumes nothing.
 use mathlib.Core.Path.{sym, ap, ◌∙◌}
 use Prim.Native.Nat.{◌-◌}
 use borrow.Author.Rules.{rules}
 use Rattle.message.specs.Body.{body_ok}
 use Rattle.message.specs.declared.Task.{Task}
-use Rattle.message.proofs.body.body_fits.Statement.{statement}
-use Rattle.message.proofs.body.body_fits.Tie as tie
+use Rattle.message.proofs.body.body_ok.Statement.{statement}
+use Rattle.message.proofs.body.body_ok.Tie as tie
 
 enum-known-task : tie.Need-enum-known-task
 enum-known-task c = search rules

@@ -27,7 +27,7 @@ returns c =
     let body = test.before in
     let start = body.before.before.before.before in
     let a = start.args in
-    does_as (body_wrong a.lim a.self a.m.now a.s.now a.out.now a.task (test_fails body.body_fits.result body.body_fits.ensures test.if1.true)) (called.drop-with.ensures.by a.s.now)
+    does_as (body_wrong a.lim a.self a.m.now a.s.now a.out.now a.task (test_fails body.body_ok.result body.body_ok.ensures test.if1.true)) (called.drop-with.ensures.by a.s.now)
 
 enum-known-task : tie.Need-enum-known-task
 enum-known-task c = search rules
@@ -39,7 +39,7 @@ work-if-sound-requires c κs =
     let body = test.before in
     let start = body.before.before.before.before in
     let a = start.args in
-    let ok : body_ok a.task a.m.now ≡ true = test-holds body.body_fits.result body.body_fits.ensures test.if1.false in
+    let ok : body_ok a.task a.m.now ≡ true = test-holds body.body_ok.result body.body_ok.ensures test.if1.false in
     (start.requires.0, start.requires.2, ap (λ (t : Task). body_ok t a.m.now) (sym list.task.given.1) ∙ ok, start.requires.3)
 
 enum_told : tie.Need-enum-told
@@ -68,7 +68,7 @@ returns-2 c =
     let body = test.before in
     let start = body.before.before.before.before in
     let a = start.args in
-    let ok : body_ok a.task a.m.now ≡ true = test-holds body.body_fits.result body.body_fits.ensures test.if1.false in
+    let ok : body_ok a.task a.m.now ≡ true = test-holds body.body_ok.result body.body_ok.ensures test.if1.false in
     let k = list.task.given.0.0 in
     let is : a.task ≡ Requests k = list.task.given.1 in
     does_as (list_judged a.lim a.self a.m.now a.s.now a.out.now k (ap (λ (t : Task). body_ok t a.m.now) (sym is) ∙ ok) ∙ ap (λ (t : Task). judged (type_test (Asks t) a.lim a.m.now a.s.now) a.lim a.self a.m.now a.s.now a.out.now) (sym is)) done.work-if-sound.ensures
@@ -87,7 +87,7 @@ returns-3 c =
     let body = test.before in
     let start = body.before.before.before.before in
     let a = start.args in
-    let ok : body_ok a.task a.m.now ≡ true = test-holds body.body_fits.result body.body_fits.ensures test.if1.false in
+    let ok : body_ok a.task a.m.now ≡ true = test-holds body.body_ok.result body.body_ok.ensures test.if1.false in
     let is = told.enum_told.given.1 in
     does_as (all-judged a.lim a.self a.m.now a.s.now a.out.now (ap (λ (t : Task). body_ok t a.m.now) (sym is) ∙ ok) ∙ ap (λ (t : Task). judged (type_test (Asks t) a.lim a.m.now a.s.now) a.lim a.self a.m.now a.s.now a.out.now) (sym is)) done.delete_all.ensures
 
@@ -98,7 +98,7 @@ returns-4 c =
     let body = test.before in
     let start = body.before.before.before.before in
     let a = start.args in
-    let ok : body_ok a.task a.m.now ≡ true = test-holds body.body_fits.result body.body_fits.ensures test.if1.false in
+    let ok : body_ok a.task a.m.now ≡ true = test-holds body.body_ok.result body.body_ok.ensures test.if1.false in
     let is = told.enum-told2.given.1 in
     does_as (end-judged a.lim a.self a.m.now a.s.now a.out.now (ap (λ (t : Task). body_ok t a.m.now) (sym is) ∙ ok) ∙ ap (λ (t : Task). judged (type_test (Asks t) a.lim a.m.now a.s.now) a.lim a.self a.m.now a.s.now a.out.now) (sym is)) (ended-does a.lim a.self a.m.now a.s.now a.out.now c.closed.result c.closed.ensures)
 

@@ -6,8 +6,8 @@ use Rattle.octets.specs.Bytes.{splice}
 use Rattle.units.specs.declared.Code.{Code}
 use Rattle.units.specs.Units.{di_unit}
 use Rattle.table.specs.declared.State.TheVariants.{IDLE, WFTC, WFAR, DATA, WFAU3, WFRESP}
-use Rattle.table.specs.declared.Stepped.TheVariants as stepped
-use Rattle.table.specs.declared.ToUser.TheVariants as user
+use Rattle.table.specs.declared.Stepped.TheVariants as Stepped
+use Rattle.table.specs.declared.ToUser.TheVariants as User
 use Rattle.table.specs.declared.ToTransport.TheVariants.{TDiscReqDi}
 use Rattle.table.specs.Table.{a19}
 use Rattle.table.specs.Steps.{acts, carried}
@@ -94,7 +94,7 @@ returns-4 c =
     let at = told.before.before in
     let start = at.before.before.before in
     error_sent start.args.kind DATA start.args.c start.args.out.now at.state-of.ensures told.enum-told4.given.1
-    (k.broken2.ensures.0 ∙ ap (λ (x : Code). stepped.Done (acts (user.DisconnectIndication x.reason x.sub) TDiscReqDi a19 3)) at.before.replayed.ensures)
+    (k.broken2.ensures.0 ∙ ap (λ (x : Code). Stepped.Done (acts (User.DisconnectIndication x.reason x.sub) TDiscReqDi a19 3)) at.before.replayed.ensures)
     k.broken2.ensures.1
     (k.broken2.ensures.2 ∙ ap (λ (x : Code). splice start.args.out.now 0 (di_unit start.args.c.responder x.reason x.sub)) at.before.replayed.ensures)
 
@@ -121,7 +121,7 @@ returns-6 c =
     let at = told.before.before in
     let start = at.before.before.before in
     error_sent start.args.kind WFRESP start.args.c start.args.out.now at.state-of.ensures told.enum-told6.given.1
-    (k.broken3.ensures.0 ∙ ap (λ (x : Code). stepped.Done (acts (user.DisconnectIndication x.reason x.sub) TDiscReqDi a19 3)) at.before.replayed.ensures)
+    (k.broken3.ensures.0 ∙ ap (λ (x : Code). Stepped.Done (acts (User.DisconnectIndication x.reason x.sub) TDiscReqDi a19 3)) at.before.replayed.ensures)
     k.broken3.ensures.1
     (k.broken3.ensures.2 ∙ ap (λ (x : Code). splice start.args.out.now 0 (di_unit start.args.c.responder x.reason x.sub)) at.before.replayed.ensures)
 

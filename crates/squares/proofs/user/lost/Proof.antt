@@ -3,8 +3,8 @@
 use mathlib.Core.Path.{ap, ◌∙◌}
 use borrow.Author.Rules.{rules}
 use Rattle.units.specs.declared.Code.{Code}
-use Rattle.table.specs.declared.Stepped.TheVariants as stepped
-use Rattle.table.specs.declared.ToUser.TheVariants as user
+use Rattle.table.specs.declared.Stepped.TheVariants as Stepped
+use Rattle.table.specs.declared.ToUser.TheVariants as User
 use Rattle.table.specs.declared.ToTransport.TheVariants.{Quiet}
 use Rattle.table.specs.Table.{a19}
 use Rattle.table.specs.Steps.{acts}
@@ -19,7 +19,7 @@ ended-requires c κs = search rules
 
 returns : tie.Need-returns
 returns c = (
-  c.ended.ensures.0 ∙ ap (λ (x : Code). stepped.Done (acts (user.DisconnectIndication x.reason x.sub) Quiet a19 0)) c.before.release-code.ensures,
+  c.ended.ensures.0 ∙ ap (λ (x : Code). Stepped.Done (acts (User.DisconnectIndication x.reason x.sub) Quiet a19 0)) c.before.release-code.ensures,
   c.ended.ensures.1,
 )
 

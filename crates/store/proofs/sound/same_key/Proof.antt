@@ -1,4 +1,4 @@
--- `store::sound::same_found_key` meets its contract.
+-- `store::sound::same_key` meets its contract.
 -- Assumes nothing.
 use mathlib.Core.Path.{sym, ap, ap₂, ◌∙◌}
 use mathlib.Core.Bool.{Bool, ◌&&◌}
@@ -9,8 +9,8 @@ use Rattle.octets.specs.Bytes.{get32}
 use Rattle.octets.proofs.BoolLaws.{and_false_left}
 use Rattle.store.specs.Layout.{record_at}
 use borrow.Author.Rules.{rules}
-use Rattle.store.proofs.sound.same_found_key.Statement.{statement}
-use Rattle.store.proofs.sound.same_found_key.Tie as tie
+use Rattle.store.proofs.sound.same_key.Statement.{statement}
+use Rattle.store.proofs.sound.same_key.Tie as tie
 
 mul-a : tie.Need-overflow-mul-a
 mul-a c = search rules

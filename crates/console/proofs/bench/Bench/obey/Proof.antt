@@ -6,7 +6,7 @@ use Rattle.session.specs.declared.Session.{Session}
 use Rattle.authentication.specs.Keys.{derived}
 use Rattle.lines.specs.Orders.{order_of}
 use Rattle.lines.specs.declared.orders.Order.{Order}
-use Rattle.lines.specs.declared.orders.Order.TheVariants as order
+use Rattle.lines.specs.declared.orders.Order.TheVariants as TheOrder
 use Rattle.console.specs.declared.bench.Bench.{Bench}
 use Rattle.console.specs.declared.connections.Sides.{Sides}
 use Rattle.console.specs.Connections.{sides_by}
@@ -159,18 +159,18 @@ bad-requires c κs = search rules
 
 returns : tie.Need-returns
 returns c =
-    left c.before.before order.Nothing _ _ _ c.enum_told.given.1 (kept c.before.before)
+    left c.before.before TheOrder.Nothing _ _ _ c.enum_told.given.1 (kept c.before.before)
 
 returns-2 : tie.Need-returns-2
 returns-2 c =
-    left c.before.before.before order.Note _ _ _ c.before.enum-told2.given.1 (kept c.before.before.before)
+    left c.before.before.before TheOrder.Note _ _ _ c.before.enum-told2.given.1 (kept c.before.before.before)
 
 returns-3 : tie.Need-returns-3
 returns-3 c =
     let read = c.before.before.before.before in
     let told = c.before.before.own.given in
     let b = read.before.before.before.before.args.self in
-    left read (order.Begin told.0.0 told.0.1.0 told.0.1.1.0) _ _ _ told.1
+    left read (TheOrder.Begin told.0.0 told.0.1.0 told.0.1.1.0) _ _ _ told.1
     (record { bench_is = ap (λ (e : Session). changed b e b.large b.held b.sides) c.begin.ensures; store_is = refl; keys_are = refl })
 
 same_length : tie.Need-same-length
@@ -181,7 +181,7 @@ returns-4 c =
     let receive = c.before.before in
     let read = receive.before.before.before.before in
     let b = read.before.before.before.before.args.self in
-    left read order.Message _ _ _ receive.before.before.enum-told3.given.1
+    left read TheOrder.Message _ _ _ receive.before.before.enum-told3.given.1
     (record { bench_is = ap (λ (e : Session). changed b e b.large b.held b.sides) receive.receive.ensures.0; store_is = receive.receive.ensures.1; keys_are = refl })
 
 same-length-2 : tie.Need-same-length-2
@@ -190,7 +190,7 @@ same-length-2 c = search rules
 returns-5 : tie.Need-returns-5
 returns-5 c =
     let told = c.before.before.before.before.peer.given in
-    left c.before.before.before.before.before.before (order.Search told.0.0 told.0.1.0) _ _ _ told.1 (kept c.before.before.before.before.before.before)
+    left c.before.before.before.before.before.before (TheOrder.Search told.0.0 told.0.1.0) _ _ _ told.1 (kept c.before.before.before.before.before.before)
 
 same-length-3 : tie.Need-same-length-3
 same-length-3 c = search rules
@@ -207,7 +207,7 @@ returns-6 c =
     let a = read.before.before.before.before.args in
     let b = a.self in
     let s : of.store-of2.result.now ≡ store_of b.large a.store.now = of.store-of2.ensures in
-    left read (order.Keys told.0.0 told.0.1.0 told.0.1.1.0) _ _ _ told.1
+    left read (TheOrder.Keys told.0.0 told.0.1.0 told.0.1.1.0) _ _ _ told.1
     (record {
       bench_is =
           ap (λ (x : Bool). changed b b.session b.large x b.sides)
@@ -222,7 +222,7 @@ same-length-5 c = search rules
 returns-7 : tie.Need-returns-7
 returns-7 c =
     let told = c.before.before.before.destination.given in
-    left c.before.before.before.before.before (order.Build told.0.0 told.0.1.0) _ _ _ told.1 (kept c.before.before.before.before.before)
+    left c.before.before.before.before.before (TheOrder.Build told.0.0 told.0.1.0) _ _ _ told.1 (kept c.before.before.before.before.before)
 
 same-length-6 : tie.Need-same-length-6
 same-length-6 c = search rules
@@ -230,7 +230,7 @@ same-length-6 c = search rules
 returns-8 : tie.Need-returns-8
 returns-8 c =
     let told = c.before.before.before.destination2.given in
-    left c.before.before.before.before.before (order.Check told.0.0 told.0.1.0) _ _ _ told.1 (kept c.before.before.before.before.before)
+    left c.before.before.before.before.before (TheOrder.Check told.0.0 told.0.1.0) _ _ _ told.1 (kept c.before.before.before.before.before)
 
 same-length-7 : tie.Need-same-length-7
 same-length-7 c = search rules
@@ -242,7 +242,7 @@ returns-9 c =
     let read = of.before.before.before.before.before in
     let a = read.before.before.before.before.args in
     let b = a.self in
-    left read (order.Connection told.0.0 told.0.1.0) _ _ _ told.1
+    left read (TheOrder.Connection told.0.0 told.0.1.0) _ _ _ told.1
     (record {
       bench_is =
           ap (λ (x : Sides). changed b b.session b.large b.held x)
@@ -259,7 +259,7 @@ returns-10 c =
     let take = c.before.before in
     let read = take.before.before.before.before in
     let a = read.before.before.before.before.args in
-    left read order.Store _ _ _ take.before.before.enum-told4.given.1
+    left read TheOrder.Store _ _ _ take.before.before.enum-told4.given.1
     (with-store a.self a.store.now a.keys.now _ _ take.take.ensures.0 take.take.ensures.1)
 
 same-length-9 : tie.Need-same-length-9
@@ -269,7 +269,7 @@ returns-11 : tie.Need-returns-11
 returns-11 c =
     let choose = c.before.before in
     let told = choose.before.before.before.large.given in
-    left choose.before.before.before.before.before (order.Edition told.0.0) _ _ _ told.1 (record { bench_is = refl; store_is = choose.choose.ensures; keys_are = refl })
+    left choose.before.before.before.before.before (TheOrder.Edition told.0.0) _ _ _ told.1 (record { bench_is = refl; store_is = choose.choose.ensures; keys_are = refl })
 
 same-length-10 : tie.Need-same-length-10
 same-length-10 c = search rules
@@ -279,7 +279,7 @@ returns-12 c =
     let convert = c.before.before in
     let read = convert.before.before.before.before in
     let a = read.before.before.before.before.args in
-    left read order.Convert _ _ _ convert.before.before.enum-told5.given.1
+    left read TheOrder.Convert _ _ _ convert.before.before.enum-told5.given.1
     (with-store a.self a.store.now a.keys.now _ _ convert.convert.ensures.0 convert.convert.ensures.1)
 
 same-length-11 : tie.Need-same-length-11
@@ -287,7 +287,7 @@ same-length-11 c = search rules
 
 returns-13 : tie.Need-returns-13
 returns-13 c =
-    left c.before.before.before.before.before.before order.Show _ _ _ c.before.before.before.before.enum-told6.given.1 (kept c.before.before.before.before.before.before)
+    left c.before.before.before.before.before.before TheOrder.Show _ _ _ c.before.before.before.before.enum-told6.given.1 (kept c.before.before.before.before.before.before)
 
 same-length-12 : tie.Need-same-length-12
 same-length-12 c = search rules
@@ -295,20 +295,20 @@ same-length-12 c = search rules
 returns-14 : tie.Need-returns-14
 returns-14 c =
     let empty = c.before.before in
-    left empty.before.before.before.before order.Empty _ _ _ empty.before.before.enum-told7.given.1 (record { bench_is = refl; store_is = empty.empty.ensures; keys_are = refl })
+    left empty.before.before.before.before TheOrder.Empty _ _ _ empty.before.before.enum-told7.given.1 (record { bench_is = refl; store_is = empty.empty.ensures; keys_are = refl })
 
 returns-15 : tie.Need-returns-15
 returns-15 c =
-    left c.before.before.before order.Help _ _ _ c.before.enum-told8.given.1 (kept c.before.before.before)
+    left c.before.before.before TheOrder.Help _ _ _ c.before.enum-told8.given.1 (kept c.before.before.before)
 
 returns-16 : tie.Need-returns-16
 returns-16 c =
-    left c.before.before.before order.Unknown _ _ _ c.before.enum-told9.given.1 (kept c.before.before.before)
+    left c.before.before.before TheOrder.Unknown _ _ _ c.before.enum-told9.given.1 (kept c.before.before.before)
 
 returns-17 : tie.Need-returns-17
 returns-17 c =
     let told = c.before.before.fault.given in
-    left c.before.before.before.before (order.Bad told.0.0 told.0.1.0) _ _ _ told.1 (kept c.before.before.before.before)
+    left c.before.before.before.before (TheOrder.Bad told.0.0 told.0.1.0) _ _ _ told.1 (kept c.before.before.before.before)
 
 pub obey-spec : {M : Type 1} → statement M
 obey-spec =

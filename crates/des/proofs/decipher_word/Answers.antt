@@ -1,0 +1,6 @@
+-- `des::decipher_word` meets its contract.
+use borrow.Author.Rules.{rules}
+use Rattle.des.proofs.decipher_word.Goals as goal
+
+pub returns : goal.returns
+returns c = c.crypt.ensures

@@ -1,0 +1,6 @@
+-- `des::encipher_word` meets its contract.
+use borrow.Author.Rules.{rules}
+use Rattle.des.proofs.encipher_word.Goals as goal
+
+pub returns : goal.returns
+returns c = c.crypt.ensures

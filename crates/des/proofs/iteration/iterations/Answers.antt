@@ -1,0 +1,53 @@
+use mathlib.Core.Path.{◌≡◌, refl, sym, ap, ap₂, ◌∙◌}
+use mathlib.Core.List.{List}
+use Prim.Native.Nat.{ℕ, ◌+◌, ◌≤◌, ◌<◌, ◌-◌}
+use native.Mathlib.Omega.{arith}
+use native.Mathlib.Numerals.{add-one}
+use lib.ListN.{get_or}
+use Rattle.des.specs.Bits.{bits}
+use Rattle.des.specs.Des as Des
+use Rattle.des.specs.Words.{keys_of}
+use Rattle.des.proofs.KeyLaws.{turned-below}
+use Rattle.des.proofs.iteration.iterations.Goals as goal
+
+next : (ks : ℕ → List ℕ) (n : ℕ) (l s t k : List ℕ) → s ≡ Des.rounds ks n l → t ≡ Des.round k s → k ≡ ks n → t ≡ Des.rounds ks (n + 1) l
+unfolding Des.rounds
+next ks n l s t k hs ht hk = ht ∙ ap₂ Des.round hk hs ∙ ap (λ (m : ℕ). Des.rounds ks m l) (sym (add-one n))
+
+at-below : (c : tie.After-turn invariant-loop decreases-loop) → c.turn.result < 16
+at-below c =
+    let loop = c.before.before in
+    let start = loop.before.before.before.before in
+    turned-below start.args.back loop.loop.n c.turn.result c.before.loop-test.true c.turn.ensures
+
+pub loop-n-init : goal.loop-n-init
+unfolding Des.rounds
+loop-n-init c = (omega arith, refl)
+
+pub turn-at-requires : goal.turn-at-requires
+turn-at-requires c = c.loop-n-test.true
+
+pub offset_bounds-keys-at : goal.offset_bounds-keys-at
+offset_bounds-keys-at c = omega (arith, at-below c)
+
+pub bounds-keys-at : goal.bounds-keys-at
+bounds-keys-at c = at-below c
+
+pub round-s-requires : goal.round-s-requires
+round-s-requires c =
+    c.requires
+
+pub loop-n-preserved : goal.loop-n-preserved
+loop-n-preserved c =
+    let a = c.args in
+    let keys = a.t2 in (
+      omega arith,
+      next (keys_of keys a.back) c.loop-n.n (bits 64 a.lr) (bits 64 c.loop-n.s) (bits 64 c.round-s.result)
+          (bits 48 (get_or keys c.turn-at.result 0)) c.loop-n.invariant.1 c.round-s.ensures (ap (λ (m : ℕ). bits 48 (get_or keys m 0)) c.turn-at.ensures),
+    )
+
+pub returns : goal.returns
+returns c =
+    let a = c.args in
+    let e : c.loop-n.n ≡ 16 = omega arith in
+    c.loop-n.invariant.1 ∙ ap (λ (m : ℕ). Des.rounds (keys_of a.t2 a.back) m (bits 64 a.lr)) e

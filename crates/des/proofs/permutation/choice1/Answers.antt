@@ -1,0 +1,13 @@
+-- `des::permutation::choice1` meets its contract: the constant is the printed table.
+use mathlib.Core.Path.{refl}
+use lib.Dec.{lit≤}
+use borrow.Author.Rules.{rules}
+use Rattle.des.specs.Tables.{pc1}
+use Rattle.des.proofs.permutation.choice1.Goals as goal
+
+pub permute-requires : goal.permute-requires
+permute-requires c = record { names = record { wide = lit≤ tt; entries = refl }; eight = refl; some = lit≤ tt; most = lit≤ tt }
+
+pub returns : goal.returns
+unfolding pc1
+returns c = c.permute.ensures

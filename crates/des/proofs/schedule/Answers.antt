@@ -1,0 +1,60 @@
+use mathlib.Core.Path.{◌≡◌, refl, sym, ap, ◌∙◌}
+use mathlib.Core.List.{List}
+use Prim.Native.Nat.{ℕ, suc, ◌≤◌, ◌<◌, ◌-◌}
+use native.Mathlib.Omega.{arith}
+use native.Mathlib.Numerals.{add-one}
+use lib.ListN.{length, get_or, length-set}
+use borrow.Author.Count.{below_none}
+use borrow.Author.Rules.{rules}
+use Rattle.des.specs.Bits.{bits}
+use Rattle.des.specs.Tables.{pc2, shifts}
+use Rattle.des.specs.Des.{permute, shifted, subkey}
+use Rattle.des.proofs.KeyLaws.{keys_step, shifted_step, shifts_fit}
+use Rattle.des.proofs.schedule.Goals as goal
+
+-- what the loop keeps
+record Kept (key : ℕ) (keys : List ℕ) (cd n : ℕ) : Type 0 where
+  most : n ≤ 16
+  sixteen : length keys ≡ 16
+  halves : bits 56 cd ≡ shifted (bits 64 key) n
+  made : (m : ℕ) → m < n → bits 48 (get_or keys m 0) ≡ subkey (bits 64 key) m
+
+pub pc2_table-table-requires : goal.pc2_table-table-requires
+pc2_table-table-requires c = tt
+
+pub choice1-cd-requires : goal.choice1-cd-requires
+choice1-cd-requires c = tt
+
+pub loop-n-init : goal.loop-n-init
+unfolding shifted
+loop-n-init c = record { most = omega arith; sixteen = refl; halves = c.choice1-cd.ensures.same; made = below_none _ }
+
+pub wide64-requires : goal.wide64-requires
+wide64-requires c = tt
+
+pub shift_both-cd-requires : goal.shift_both-cd-requires
+unfolding shifts
+shift_both-cd-requires c = omega (arith, shifts_fit c.loop-n.n c.loop-n-test.true)
+
+pub choice2-requires : goal.choice2-requires
+choice2-requires c =
+    c.pc2_table-table.ensures
+
+pub loop-n-preserved : goal.loop-n-preserved
+unfolding shifts subkey
+loop-n-preserved c =
+    let n = c.loop-n.n in
+    let key = c.args.key in
+    let l : n < length c.loop-n.keys = omega arith in
+    let next : bits 56 c.shift_both-cd.result ≡ shifted (bits 64 key) (suc n) =
+    shifted_step (bits 64 key) n c.loop-n.cd c.shift_both-cd.result c.wide64.ensures.0 c.loop-n.invariant.halves c.shift_both-cd.ensures.same in
+    record {
+      most = omega arith;
+      sixteen = simp length-set c.loop-n.invariant.sixteen;
+      halves = next ∙ ap (shifted (bits 64 key)) (sym (add-one n));
+      made = keys_step (bits 64 key) c.loop-n.keys n c.choice2.result l c.loop-n.invariant.made (c.choice2.ensures.same ∙ ap (permute pc2) next);
+    }
+
+pub returns : goal.returns
+returns c =
+    record { each = λ n l. c.loop-n.invariant.made n (omega arith) }

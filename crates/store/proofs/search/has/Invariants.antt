@@ -1,0 +1,15 @@
+-- `store::search::has` meets its contract. The loop's invariant: what is left decides.
+use mathlib.Core.Path.{◌≡◌, sym, ◌∙◌}
+use lib.ListN.{length}
+use Prim.Native.Nat.{◌+◌, ◌-◌, ◌*◌, ◌≤◌}
+use native.Mathlib.Omega.{arith}
+use native.Mathlib.Nat.{sub-zero}
+use Rattle.octets.specs.Words.{numbers, elem}
+use Rattle.octets.proofs.WordLaws.{elem_turn, elem-here, elem_end}
+use Rattle.store.proofs.search.has.Given as goal
+
+abbrev pub invariant-loop-k : goal.invariant-loop-k
+invariant-loop-k l = (l.k ≤ l.n) × (l.a ≡ l.i + 4 * l.k) × (l.i + 4 * l.n ≤ length l.s) × (elem l.x (numbers l.s l.i l.n) ≡ elem l.x (numbers l.s l.a (l.n - l.k)))
+
+abbrev pub decreases-loop-k : goal.decreases-loop-k
+decreases-loop-k l = l.n - l.k

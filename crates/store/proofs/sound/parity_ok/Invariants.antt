@@ -1,0 +1,19 @@
+-- `store::sound::parity_ok` meets its contract. The loop's invariant: each KMAC passed is of odd parity.
+use mathlib.Core.Path.{◌≡◌, refl, sym, ◌∙◌}
+use mathlib.Core.Bool.{Bool, true}
+use mathlib.Core.List.{List}
+use lib.ListN.{length}
+use Prim.Native.Nat.{ℕ, ◌-◌, ◌≤◌, ◌<◌}
+use native.Mathlib.Omega.{arith}
+use borrow.Author.Tests.{not-true, not-false}
+use Rattle.octets.specs.Bytes.{all_below}
+use Rattle.octets.proofs.BoolLaws.{all_below_more, all_below_fails}
+use Rattle.store.specs.Layout.{record_at}
+use Rattle.store.specs.Store.{key_count, kmac_at, all_odd, parity_ok}
+use Rattle.store.proofs.sound.parity_ok.Given as goal
+
+abbrev pub invariant-loop-i : goal.invariant-loop-i
+invariant-loop-i l = (l.i ≤ l.n) × (l.n ≡ key_count l.s) × (l.n < 65536) × (record_at l.n ≤ length l.s) × (all_below l.i (oddKey l.s) ≡ true)
+
+abbrev pub decreases-loop-i : goal.decreases-loop-i
+decreases-loop-i l = l.n - l.i

@@ -1,0 +1,66 @@
+use mathlib.Core.Path.{◌≡◌, refl, sym, ap, ◌∙◌}
+use mathlib.Core.Bool.{true, false}
+use mathlib.Core.Logic.{⊎_elim}
+use lib.ListN.{length, get_or, length-set}
+use Prim.Native.Nat.{◌-◌, ◌≤◌, ◌<◌}
+use native.Mathlib.Omega.{arith}
+use borrow.Author.Tests.{not-true, not-false}
+use Rattle.octets.specs.Bytes.{all_below}
+use Rattle.octets.proofs.BoolLaws.{all_below_more, all_below_fails}
+use Rattle.store.specs.Layout.{record_at}
+use Rattle.store.specs.Store.{key_count, new_key, unique_ok}
+use Rattle.store.specs.Slots.{slot_of, fingerprint_of, suspect, marked_by}
+use Rattle.store.proofs.SlotLaws.{Marked, marked-none, marked_more, not-suspect-new}
+use Rattle.store.proofs.sound.unique_ok.Goals as goal
+
+pub loop-i-init : goal.loop-i-init
+unfolding all_below
+loop-i-init c = (omega arith, c.number_at-n.ensures.0, c.number_at-n.ensures.1, omega arith, refl, refl, marked-none c.args.s.now _)
+
+pub slot_of-k-requires : goal.slot_of-k-requires
+slot_of-k-requires c = tt
+
+pub fingerprint_of-fingerprint-requires : goal.fingerprint_of-fingerprint-requires
+fingerprint_of-fingerprint-requires c = tt
+
+pub bounds-marks-k : goal.bounds-marks-k
+bounds-marks-k c = c.slot_of-k.ensures.1
+
+pub is_suspect-requires : goal.is_suspect-requires
+is_suspect-requires c = tt
+
+pub returns-then-not-new_key : goal.returns-then-not-new_key
+unfolding unique_ok
+returns-then-not-new_key c =
+    let s = c.args.s.now in
+    sym (all_below_fails (key_count s) c.loop-i.i (new_key s) (omega arith) (sym c.new_key.ensures ∙ not-true c.new_key.result c.if-not-new_key.true))
+
+pub marked-requires : goal.marked-requires
+marked-requires c = tt
+
+pub bounds-marks-k-in-loop-i : goal.bounds-marks-k-in-loop-i
+bounds-marks-k-in-loop-i c = c.slot_of-k.ensures.1
+
+pub loop-i-preserved : goal.loop-i-preserved
+loop-i-preserved c =
+    let s = c.args.s.now in
+    let i = c.loop-i.i in
+    let marks = c.loop-i.marks in
+    let k = c.slot_of-k.result in
+    let passed : c.is_suspect.result ≡ false → new_key s i ≡ true =
+    λ f. not-suspect-new s i k marks c.loop-i.invariant.6 (c.slot_of-k.ensures.0 ∙ ap slot_of c.hash_at-hash.ensures) (ap (suspect (get_or marks k 0)) (sym (c.fingerprint_of-fingerprint.ensures ∙ ap fingerprint_of c.hash_at-hash.ensures)) ∙ sym c.is_suspect.ensures ∙ f) in
+    let is-new : new_key s i ≡ true = ⊎_elim (λ t. sym t.1.ensures ∙ not-false t.1.result t.2.left) (λ t. passed t.left) c.if-is_suspect.branch in (
+      omega arith,
+      c.loop-i.invariant.1,
+      c.loop-i.invariant.2,
+      c.loop-i.invariant.3,
+      all_below_more i (new_key s) c.loop-i.invariant.4 is-new,
+      length-set marks k c.marked.result ∙ c.loop-i.invariant.5,
+      marked_more s i k c.marked.result marks c.loop-i.invariant.6 (c.slot_of-k.ensures.0 ∙ ap slot_of c.hash_at-hash.ensures) (omega (arith, c.slot_of-k.ensures.1, c.loop-i.invariant.5)) (c.marked.ensures ∙ ap (marked_by (get_or marks k 0)) (c.fingerprint_of-fingerprint.ensures ∙ ap fingerprint_of c.hash_at-hash.ensures)),
+    )
+
+pub returns : goal.returns
+unfolding unique_ok
+returns c =
+    let e : c.loop-i.i ≡ key_count c.args.s.now = omega arith in
+    sym (rw e at c.loop-i.invariant.4)
