@@ -10,14 +10,8 @@ use Rattle.des.specs.Bits.{bits}
 use Rattle.des.specs.Tables.{pc2, shifts}
 use Rattle.des.specs.Des.{permute, shifted, subkey}
 use Rattle.des.proofs.KeyLaws.{keys_step, shifted_step, shifts_fit}
+use Rattle.des.proofs.schedule.Invariants.{Kept}
 use Rattle.des.proofs.schedule.Goals as goal
-
--- what the loop keeps
-record Kept (key : ℕ) (keys : List ℕ) (cd n : ℕ) : Type 0 where
-  most : n ≤ 16
-  sixteen : length keys ≡ 16
-  halves : bits 56 cd ≡ shifted (bits 64 key) n
-  made : (m : ℕ) → m < n → bits 48 (get_or keys m 0) ≡ subkey (bits 64 key) m
 
 pub pc2_table-table-requires : goal.pc2_table-table-requires
 pc2_table-table-requires c = tt

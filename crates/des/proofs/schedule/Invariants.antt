@@ -13,6 +13,13 @@ use Rattle.des.specs.Des.{permute, shifted, subkey}
 use Rattle.des.proofs.KeyLaws.{keys_step, shifted_step, shifts_fit}
 use Rattle.des.proofs.schedule.Given as goal
 
+-- what the loop keeps
+pub record Kept (key : ℕ) (keys : List ℕ) (cd n : ℕ) : Type 0 where
+  pub most : n ≤ 16
+  pub sixteen : length keys ≡ 16
+  pub halves : bits 56 cd ≡ shifted (bits 64 key) n
+  pub made : (m : ℕ) → m < n → bits 48 (get_or keys m 0) ≡ subkey (bits 64 key) m
+
 abbrev pub invariant-loop-n : goal.invariant-loop-n
 invariant-loop-n l = Kept l.key l.keys l.cd l.n
 

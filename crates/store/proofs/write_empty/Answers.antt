@@ -9,4 +9,4 @@ returns c =
     let a = c.args in
     empty-written a.lim a.s.now c.clear.new.s c.put_number.new.s c.put_number-2.new.s
     c.put_number-3.new.s c.put_number-4.new.s
-    c.requires.1 c.clear.ensures c.put_number.ensures c.put_number-2.ensures c.put_number-3.ensures c.put_number-4.ensures
+    c.requires.s_len c.clear.ensures c.put_number.ensures c.put_number-2.ensures c.put_number-3.ensures c.put_number-4.ensures

@@ -19,11 +19,11 @@ loop-i-init c =
 
 pub end_at-e-requires : goal.end_at-e-requires
 end_at-e-requires c =
-    (c.requires, omega arith)
+    record { s_value = c.requires; i_bound = omega arith }
 
 pub serves_at-requires : goal.serves_at-requires
 serves_at-requires c =
-    (c.requires, omega arith)
+    record { s_value = c.requires; i_bound = omega arith }
 
 pub loop-i-preserved-then-serves_at : goal.loop-i-preserved-then-serves_at
 loop-i-preserved-then-serves_at c =

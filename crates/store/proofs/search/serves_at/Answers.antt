@@ -15,43 +15,43 @@ use Rattle.store.proofs.search.serves_at.Goals as goal
 
 pub overflow_mul-peers_at : goal.overflow_mul-peers_at
 overflow_mul-peers_at c = let r = (let a = c.args in
-    room a.lim a.s.now a.i (λ j. (c.type_inv.s j)) c.requires.0 c.requires.1) in omega arith
+    room a.lim a.s.now a.i (λ j. (c.type_inv.s j).fits) c.requires.s_value c.requires.i_bound) in omega arith
 
 pub overflow_add-peers_at : goal.overflow_add-peers_at
 overflow_add-peers_at c = let r = (let a = c.args in
-    room a.lim a.s.now a.i (λ j. (c.type_inv.s j)) c.requires.0 c.requires.1) in omega arith
+    room a.lim a.s.now a.i (λ j. (c.type_inv.s j).fits) c.requires.s_value c.requires.i_bound) in omega arith
 
 pub overflow_mul-at : goal.overflow_mul-at
 overflow_mul-at c = let r = (let a = c.args in
-    room a.lim a.s.now a.i (λ j. (c.type_inv.s j)) c.requires.0 c.requires.1) in omega arith
+    room a.lim a.s.now a.i (λ j. (c.type_inv.s j).fits) c.requires.s_value c.requires.i_bound) in omega arith
 
 pub overflow_add-at : goal.overflow_add-at
 overflow_add-at c = let r = (let a = c.args in
-    room a.lim a.s.now a.i (λ j. (c.type_inv.s j)) c.requires.0 c.requires.1) in omega arith
+    room a.lim a.s.now a.i (λ j. (c.type_inv.s j).fits) c.requires.s_value c.requires.i_bound) in omega arith
 
 pub overflow_add-at-2 : goal.overflow_add-at-2
 overflow_add-at-2 c = let r = (let a = c.args in
-    room a.lim a.s.now a.i (λ j. (c.type_inv.s j)) c.requires.0 c.requires.1) in omega arith
+    room a.lim a.s.now a.i (λ j. (c.type_inv.s j).fits) c.requires.s_value c.requires.i_bound) in omega arith
 
 pub number_at-first-requires : goal.number_at-first-requires
 number_at-first-requires c = let r = (let a = c.args in
-    room a.lim a.s.now a.i (λ j. (c.type_inv.s j)) c.requires.0 c.requires.1) in omega arith
+    room a.lim a.s.now a.i (λ j. (c.type_inv.s j).fits) c.requires.s_value c.requires.i_bound) in omega arith
 
 pub overflow_add-at-3 : goal.overflow_add-at-3
 overflow_add-at-3 c = let r = (let a = c.args in
-    room a.lim a.s.now a.i (λ j. (c.type_inv.s j)) c.requires.0 c.requires.1) in omega arith
+    room a.lim a.s.now a.i (λ j. (c.type_inv.s j).fits) c.requires.s_value c.requires.i_bound) in omega arith
 
 pub number_at-count-requires : goal.number_at-count-requires
 number_at-count-requires c = let r = (let a = c.args in
-    room a.lim a.s.now a.i (λ j. (c.type_inv.s j)) c.requires.0 c.requires.1) in omega arith
+    room a.lim a.s.now a.i (λ j. (c.type_inv.s j).fits) c.requires.s_value c.requires.i_bound) in omega arith
 
 pub overflow_add-peers_at-2 : goal.overflow_add-peers_at-2
 overflow_add-peers_at-2 c = let r = (let a = c.args in
-    room a.lim a.s.now a.i (λ j. (c.type_inv.s j)) c.requires.0 c.requires.1) in omega arith
+    room a.lim a.s.now a.i (λ j. (c.type_inv.s j).fits) c.requires.s_value c.requires.i_bound) in omega arith
 
 pub has-requires : goal.has-requires
 has-requires c = let r = (let a = c.args in
-    room a.lim a.s.now a.i (λ j. (c.type_inv.s j)) c.requires.0 c.requires.1) in omega arith
+    room a.lim a.s.now a.i (λ j. (c.type_inv.s j).fits) c.requires.s_value c.requires.i_bound) in omega arith
 
 pub returns-then-not-has : goal.returns-then-not-has
 returns-then-not-has c =
@@ -61,17 +61,17 @@ returns-then-not-has c =
     let peer = c.args.peer in
     let peers : elem peer (entry_at L s i).peers ≡ false =
     ap₂ (λ (x y : ℕ). elem peer (numbers s (peers_at L + 4 * x) y)) (sym c.number_at-first.ensures.0) (sym c.number_at-count.ensures.0)
-    ∙ sym c.has.ensures ∙ not-true c.has.result c.if-not-has.true in
+    ∙ sym c.has.ensures ∙ c.if-not-has.true in
     let e = entry_at L s i in
     sym (and_false_left (elem peer e.peers) (fits e.start e.end c.args.t) peers)
 
 pub overflow_add-at-4 : goal.overflow_add-at-4
 overflow_add-at-4 c = let r = (let a = c.args in
-    room a.lim a.s.now a.i (λ j. (c.type_inv.s j)) c.requires.0 c.requires.1) in omega arith
+    room a.lim a.s.now a.i (λ j. (c.type_inv.s j).fits) c.requires.s_value c.requires.i_bound) in omega arith
 
 pub get32_at-requires : goal.get32_at-requires
 get32_at-requires c = let r = (let a = c.args in
-    room a.lim a.s.now a.i (λ j. (c.type_inv.s j)) c.requires.0 c.requires.1) in omega arith
+    room a.lim a.s.now a.i (λ j. (c.type_inv.s j).fits) c.requires.s_value c.requires.i_bound) in omega arith
 
 pub end_at-requires : goal.end_at-requires
 end_at-requires c =
@@ -85,7 +85,7 @@ returns c =
     let peer = c.args.peer in
     let peers : elem peer (entry_at L s i).peers ≡ true =
     ap₂ (λ (x y : ℕ). elem peer (numbers s (peers_at L + 4 * x) y)) (sym c.number_at-first.ensures.0) (sym c.number_at-count.ensures.0)
-    ∙ sym c.has.ensures ∙ not-false c.has.result c.if-not-has.false in
+    ∙ sym c.has.ensures ∙ c.if-not-has.false in
     let e = entry_at L s i in
     let t = c.args.t in
     c.fits2.ensures

@@ -10,11 +10,8 @@ use Rattle.octets.proofs.BoolLaws.{all_below_more, all_below_fails}
 use lib.Count.{ones}
 use Rattle.octets.proofs.PartLaws.{part_at, part_length}
 use Rattle.store.specs.Store.{is_odd, all_odd}
+use Rattle.store.proofs.sound.all_odd.Invariants.{oddAt}
 use Rattle.store.proofs.sound.all_odd.Goals as goal
-
--- byte k of the KMAC at index i is odd
-abbrev oddAt : List ℕ → ℕ → ℕ → Bool
-oddAt s i k = is_odd (get_or (part s i 24) k 0)
 
 -- it is the byte at index i + k
 at-index : (s : List ℕ) (i k : ℕ) → k < 24 → ones (get_or (part s i 24) k 0) % 2 ≡ ones (get_or s (i + k) 0) % 2

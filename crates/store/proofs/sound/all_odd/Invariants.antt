@@ -13,6 +13,10 @@ use Rattle.octets.proofs.PartLaws.{part_at, part_length}
 use Rattle.store.specs.Store.{is_odd, all_odd}
 use Rattle.store.proofs.sound.all_odd.Given as goal
 
+-- byte k of the KMAC at index i is odd
+abbrev pub oddAt : List ℕ → ℕ → ℕ → Bool
+oddAt s i k = is_odd (get_or (part s i 24) k 0)
+
 abbrev pub invariant-loop-k : goal.invariant-loop-k
 invariant-loop-k l = (l.k ≤ 24) × (l.i + 24 ≤ length l.s) × (all_below l.k (oddAt l.s l.i) ≡ true)
 

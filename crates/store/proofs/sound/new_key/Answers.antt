@@ -8,22 +8,19 @@ use Rattle.octets.specs.Bytes.{all_below}
 use Rattle.octets.proofs.BoolLaws.{all_below_more, all_below_fails}
 use Rattle.store.specs.Layout.{record_at}
 use Rattle.store.specs.Store.{same_key, new_key}
+use Rattle.store.proofs.sound.new_key.Invariants.{other}
 use Rattle.store.proofs.sound.new_key.Goals as goal
-
--- record j has another key than record i
-abbrev other : List ℕ → ℕ → ℕ → Bool
-other s i j = not (same_key s i j)
 
 pub loop-j-init : goal.loop-j-init
 unfolding all_below
 loop-j-init c = (omega arith, omega arith, omega arith, refl)
 
-pub returns-then-same_found_key : goal.returns-then-same_found_key
+pub returns-then-same_key : goal.returns-then-same_key
 unfolding new_key
-returns-then-same_found_key c =
+returns-then-same_key c =
     let s = c.args.s.now in
     let i = c.args.i in
-    sym (all_below_fails i c.loop-j.j (other s i) (omega arith) (ap not (sym c.same_key.ensures ∙ c.if-same_found_key.true)))
+    sym (all_below_fails i c.loop-j.j (other s i) (omega arith) (ap not (sym c.same_key.ensures ∙ c.if-same_key.true)))
 
 pub loop-j-preserved : goal.loop-j-preserved
 loop-j-preserved c =
@@ -32,7 +29,7 @@ loop-j-preserved c =
       omega arith,
       omega arith,
       omega arith,
-      all_below_more c.loop-j.j (other s i) c.loop-j.invariant.3 (ap not (sym c.same_key.ensures ∙ c.if-same_found_key.false)),
+      all_below_more c.loop-j.j (other s i) c.loop-j.invariant.3 (ap not (sym c.same_key.ensures ∙ c.if-same_key.false)),
     )
 
 pub returns : goal.returns

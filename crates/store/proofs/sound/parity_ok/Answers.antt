@@ -9,11 +9,8 @@ use Rattle.octets.specs.Bytes.{all_below}
 use Rattle.octets.proofs.BoolLaws.{all_below_more, all_below_fails}
 use Rattle.store.specs.Layout.{record_at}
 use Rattle.store.specs.Store.{key_count, kmac_at, all_odd, parity_ok}
+use Rattle.store.proofs.sound.parity_ok.Invariants.{oddKey}
 use Rattle.store.proofs.sound.parity_ok.Goals as goal
-
--- the KMAC of record i is of odd parity
-abbrev oddKey : List ℕ → ℕ → Bool
-oddKey s i = all_odd (kmac_at s i)
 
 pub loop-i-init : goal.loop-i-init
 unfolding all_below
@@ -23,7 +20,7 @@ pub returns-then-not-all_odd : goal.returns-then-not-all_odd
 unfolding parity_ok
 returns-then-not-all_odd c =
     let s = c.args.s.now in
-    sym (all_below_fails (key_count s) c.loop-i.i (oddKey s) (omega arith) (sym c.all_odd.ensures ∙ not-true c.all_odd.result c.if-not-all_odd.true))
+    sym (all_below_fails (key_count s) c.loop-i.i (oddKey s) (omega arith) (sym c.all_odd.ensures ∙ c.if-not-all_odd.true))
 
 pub loop-i-preserved : goal.loop-i-preserved
 loop-i-preserved c =
@@ -32,7 +29,7 @@ loop-i-preserved c =
       c.loop-i.invariant.1,
       c.loop-i.invariant.2,
       c.loop-i.invariant.3,
-      all_below_more c.loop-i.i (oddKey s) c.loop-i.invariant.4 (sym c.all_odd.ensures ∙ not-false c.all_odd.result c.if-not-all_odd.false),
+      all_below_more c.loop-i.i (oddKey s) c.loop-i.invariant.4 (sym c.all_odd.ensures ∙ c.if-not-all_odd.false),
     )
 
 pub returns : goal.returns

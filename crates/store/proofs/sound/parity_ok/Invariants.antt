@@ -12,6 +12,10 @@ use Rattle.store.specs.Layout.{record_at}
 use Rattle.store.specs.Store.{key_count, kmac_at, all_odd, parity_ok}
 use Rattle.store.proofs.sound.parity_ok.Given as goal
 
+-- the KMAC of record i is of odd parity
+abbrev pub oddKey : List ℕ → ℕ → Bool
+oddKey s i = all_odd (kmac_at s i)
+
 abbrev pub invariant-loop-i : goal.invariant-loop-i
 invariant-loop-i l = (l.i ≤ l.n) × (l.n ≡ key_count l.s) × (l.n < 65536) × (record_at l.n ≤ length l.s) × (all_below l.i (oddKey l.s) ≡ true)
 

@@ -33,7 +33,7 @@ pub returns-then-not-new_key : goal.returns-then-not-new_key
 unfolding unique_ok
 returns-then-not-new_key c =
     let s = c.args.s.now in
-    sym (all_below_fails (key_count s) c.loop-i.i (new_key s) (omega arith) (sym c.new_key.ensures ∙ not-true c.new_key.result c.if-not-new_key.true))
+    sym (all_below_fails (key_count s) c.loop-i.i (new_key s) (omega arith) (sym c.new_key.ensures ∙ c.if-not-new_key.true))
 
 pub marked-requires : goal.marked-requires
 marked-requires c = tt

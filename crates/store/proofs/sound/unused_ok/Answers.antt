@@ -23,7 +23,7 @@ returns-then-not-is_clear c =
     let L = c.args.lim in
     let s = c.args.s.now in
     sym (and_false_left (keysFree s L.keys (key_count s)) (peersFree s L.keys L.peers (peer_count s))
-    (ap (keysFree s L.keys) (sym c.number_at-n.ensures.0) ∙ sym c.is_clear.ensures ∙ not-true c.is_clear.result c.if-not-is_clear.true))
+    (ap (keysFree s L.keys) (sym c.number_at-n.ensures.0) ∙ sym c.is_clear.ensures ∙ c.if-not-is_clear.true))
 
 pub returns : goal.returns
 unfolding unused_ok
@@ -31,5 +31,5 @@ returns c =
     let L = c.args.lim in
     let s = c.args.s.now in
     let free : keysFree s L.keys (key_count s) ≡ true =
-    ap (keysFree s L.keys) (sym c.number_at-n.ensures.0) ∙ sym c.is_clear.ensures ∙ not-false c.is_clear.result c.if-not-is_clear.false in
+    ap (keysFree s L.keys) (sym c.number_at-n.ensures.0) ∙ sym c.is_clear.ensures ∙ c.if-not-is_clear.false in
     c.is_clear-2.ensures ∙ ap (peersFree s L.keys L.peers) c.number_at-m.ensures.0 ∙ sym (ap (λ (x : Bool). x && peersFree s L.keys L.peers (peer_count s)) free)
