@@ -2,12 +2,12 @@
 -- Assumes nothing.
 use mathlib.Core.Path.{◌≡◌, refl}
 use mathlib.Core.Bool.{true}
-use mathlib.Core.List.{List, [], ◌∷◌, ◌++◌}
+use mathlib.Core.List.{List, [], ◌∷◌}
 use Prim.Native.Nat.{ℕ}
 use Rattle.octets.specs.Bytes.{part}
 use Rattle.octets.specs.Words.{numbers, elem}
-use Rattle.store.specs.Request.{add, entities}
-use Rattle.message.specs.declared.Command.TheVariants.{Adds, Entities}
+use Rattle.store.specs.Request.{add}
+use Rattle.message.specs.declared.Command.TheVariants.{Adds}
 use Rattle.message.specs.declared.Task.TheVariants.{Requests}
 use Rattle.message.specs.Header.{message_length, version, receiver, sender, transaction, sequence, type_number}
 use Rattle.message.specs.Body.{size_at, fields_ok, request_at, fields_from, requests_from, requests, body_ok}

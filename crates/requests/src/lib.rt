@@ -11,7 +11,7 @@ mod removal;
 ghost use Rattle.std.specs.Prelude.{◌≡◌, true, ℕ, ◌+◌, ◌*◌, ◌≤◌, ◌<◌, length};
 ghost use Rattle.octets.specs.Words.{numbers};
 ghost use Rattle.store.specs.Store.{entries, sound};
-ghost use Rattle.store.specs.Request.{delete, validity, entities, result};
+ghost use Rattle.store.specs.Request.{delete, validity, entities, result as result_of};
 ghost use Rattle.requests.specs.Worked.{Worked, addition};
 
 use append::append;
@@ -62,7 +62,7 @@ const TOO_MANY_PEERS: u8 = 255;
 // Deletes the key with this issuer and serial.
 pub fn delete(s: &mut [u8], lim: Limits, issuer: u32, serial: u32) -> u8
     requires { sound lim s.old ≡ true }
-    ensures* { λ r. ⌜ ((own : ℕ) → Worked lim own (delete issuer serial) s.old s.new r) ⌝ }
+    ensures { (own : ℕ) → Worked lim own (delete issuer serial) s.old s.new result }
 {
     let n = number_at(s, 2);
     let i = key_place(s, lim, issuer, serial);
@@ -76,7 +76,7 @@ pub fn delete(s: &mut [u8], lim: Limits, issuer: u32, serial: u32) -> u8
 // Replaces start and end of the key with this issuer and serial.
 pub fn set_validity(s: &mut [u8], lim: Limits, issuer: u32, serial: u32, start: u32, end: u32) -> u8
     requires { sound lim s.old ≡ true }
-    ensures* { λ r. ⌜ ((own : ℕ) → Worked lim own (validity issuer serial start «end») s.old s.new r) ⌝ }
+    ensures { (own : ℕ) → Worked lim own (validity issuer serial start «end») s.old s.new result }
 {
     let n = number_at(s, 2);
     let i = key_place(s, lim, issuer, serial);
@@ -99,7 +99,7 @@ pub fn set_entities(
 ) -> u8
     requires s_value { sound lim s.old ≡ true }
     requires count_in_bounds { at + 4 * count ≤ length m.now }
-    ensures* { λ r. ⌜ ((own : ℕ) → Worked lim own (entities issuer serial (numbers m.now at count)) s.old s.new r) ⌝ }
+    ensures { (own : ℕ) → Worked lim own (entities issuer serial (numbers m.now at count)) s.old s.new result }
 {
     let most = lim.peers;
     let i = key_place(s, lim, issuer, serial);
@@ -120,7 +120,7 @@ pub fn set_entities(
 fn add_result(s: &[u8], lim: Limits, own: u32, new: Addition, m: &[u8]) -> u8
     requires s_value { sound lim s.now ≡ true }
     requires kmac_in_bounds { (new.kmac + 24 ≤ length m.now) × (new.peers + 4 * new.count ≤ length m.now) }
-    ensures* { λ r. ⌜ r ≡ result lim own (addition new m.now) (entries lim s.now) ⌝ }
+    ensures { result ≡ result_of lim own (addition new m.now) (entries lim s.now) }
 {
     let keys = lim.keys;
     let peers = lim.peers;
@@ -150,7 +150,7 @@ fn add_result(s: &[u8], lim: Limits, own: u32, new: Addition, m: &[u8]) -> u8
 pub fn add(s: &mut [u8], lim: Limits, own: u32, new: Addition, m: &[u8]) -> u8
     requires s_value { sound lim s.old ≡ true }
     requires kmac_in_bounds { (new.kmac + 24 ≤ length m.now) × (new.peers + 4 * new.count ≤ length m.now) }
-    ensures* { λ r. ⌜ Worked lim own (addition new m.now) s.old s.new r ⌝ }
+    ensures { Worked lim own (addition new m.now) s.old s.new result }
 {
     let result = add_result(s, lim, own, new, m);
     if result != DONE {

@@ -1,0 +1,29 @@
+-- `requests::delete` meets its contract.
+use native.Mathlib.Omega.{arith}
+use Rattle.store.proofs.SearchLaws.{Framed, frame}
+use Rattle.requests.proofs.ResultLaws.{delete-worked, delete-refused}
+use Rattle.requests.proofs.delete.Goals as goal
+
+pub number_at-n-requires : goal.number_at-n-requires
+number_at-n-requires c = let r : Framed c.args.lim c.args.s.now = let a = c.args in
+    frame a.lim a.s.now (λ j. (c.slice_known-1.given j).fits) c.requires in omega arith
+
+pub key_place-i-requires : goal.key_place-i-requires
+key_place-i-requires c =
+    let r : Framed c.args.lim c.args.s.now = let a = c.args in
+    frame a.lim a.s.now (λ j. (c.slice_known-1.given j).fits) c.requires in
+    let number-at-says = c.number_at-n.ensures in
+    omega arith
+
+pub returns-then-i-n : goal.returns-then-i-n
+returns-then-i-n c =
+    let a = c.args in
+    λ own. delete-worked a.lim a.s.now a.issuer a.serial c.number_at-n.result c.key_place-i.result
+    c.number_at-n.ensures.0 c.key_place-i.ensures own c.remove_at.new.s c.if-i-n.true
+    c.remove_at.ensures
+
+pub returns : goal.returns
+returns c =
+    let a = c.args in
+    λ own. delete-refused a.lim a.s.now a.issuer a.serial c.number_at-n.result c.key_place-i.result
+    c.number_at-n.ensures.0 c.key_place-i.ensures own (λ j. (c.slice_known-1.given j).fits) c.requires c.if-i-n.false
