@@ -155,7 +155,7 @@ impl Bench {
         ensures { result ≡ next_line self }
     {
         self.filled = 0;
-        self.line = std::num::wrapping_add_u64(self.line, 1);
+        self.line = self.line.wrapping_add(1);
         self
     }
 

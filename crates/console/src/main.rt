@@ -6,8 +6,8 @@ ghost use Rattle.std.specs.Prelude.{◌≡◌, ◌≤◌, length};
 use crate::bench::Bench;
 use crate::stores::clear;
 use crate::text::LINE;
-use libc::STDIN_FILENO;
 use lines::words::{Class, first};
+use std::io::Read;
 use store::editions::LENGTH_2;
 
 mod answers;
@@ -55,26 +55,34 @@ fn feed(start: Bench, chunk: &[u8], line: &mut [u8], store: &mut [u8], keys: &mu
     bench
 }
 
-// Reads once, and works the lines that end there.
-fn turn(bench: Bench, line: &mut [u8], store: &mut [u8], keys: &mut [u8]) -> Bench
+// Reads once, and works the lines that end there. A read that fails ends the input.
+fn turn(
+    input: &mut impl Read,
+    bench: Bench,
+    line: &mut [u8],
+    store: &mut [u8],
+    keys: &mut [u8],
+) -> Bench
     requires { (length store.old ≡ 38012) × (length keys.old ≡ 24) }
 {
     let mut chunk = io::buffer();
-    let got = libc::read(STDIN_FILENO, &mut chunk);
-    let n = io::count(got, &chunk);
+    let n = match input.read(&mut chunk) {
+        Ok(n) => n,
+        Err(_) => 0,
+    };
     let mut next = feed(bench, &chunk[..n], line, store, keys);
     next.more = n > 0;
     next
 }
 
 // Nothing says that the input ends: the turns are counted down from a number that no run uses up.
-fn run(line: &mut [u8], store: &mut [u8], keys: &mut [u8]) -> Bench
+fn run(input: &mut impl Read, line: &mut [u8], store: &mut [u8], keys: &mut [u8]) -> Bench
     requires { (length store.old ≡ 38012) × (length keys.old ≡ 24) }
 {
     let mut bench = Bench::new();
     let mut turns = u64::MAX;
     while turns > 0 && bench.more {
-        bench = turn(bench, line, store, keys);
+        bench = turn(input, bench, line, store, keys);
         turns -= 1;
     }
     bench
@@ -90,12 +98,12 @@ fn finish(bench: Bench, line: &[u8], store: &mut [u8], keys: &mut [u8])
     }
 }
 
-fn main() {
+fn main(rt: HostRuntime) {
     let mut line = [0u8; LINE];
     let mut store = [0u8; LENGTH_2];
     let mut keys = [0u8; 24];
     // Edition 1, as it was when there was no other.
     clear(false, &mut store);
-    let bench = run(&mut line, &mut store, &mut keys);
+    let bench = run(&mut rt.stdin(), &mut line, &mut store, &mut keys);
     finish(bench, &line, &mut store, &mut keys);
 }

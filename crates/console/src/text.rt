@@ -1,6 +1,8 @@
 // What is written to standard output, and how long a line of the input may be.
-use libc::STDOUT_FILENO;
 use lines::digits::encode;
+
+// The descriptor of standard output.
+const STANDARD_OUTPUT: i32 = 1;
 
 // The most characters of a line, and the most bytes that it can have in hex: a store of edition 2 fits.
 pub const LINE: usize = 76100;
@@ -8,7 +10,7 @@ pub const LINE: usize = 76100;
 pub const LINE_BYTES: usize = 38050;
 
 pub fn text(s: &[u8]) {
-    io::write_all(STDOUT_FILENO, s);
+    io::write_all(STANDARD_OUTPUT, s);
 }
 
 pub fn end() {
@@ -21,12 +23,12 @@ pub fn line(s: &[u8]) {
 }
 
 pub fn number(n: u64) {
-    io::print_decimal(STDOUT_FILENO, n);
+    io::print_decimal(STANDARD_OUTPUT, n);
 }
 
 // Eight hex digits.
 pub fn word(x: u32) {
-    io::print_hex(STDOUT_FILENO, x as u64, 8);
+    io::print_hex(STANDARD_OUTPUT, x as u64, 8);
 }
 
 // Two hex digits for each byte, of at most 1,032 bytes.

@@ -4,10 +4,14 @@
 ghost use Rattle.std.specs.Prelude.{◌≡◌, true};
 ghost use Rattle.runs.specs.Alike.{is_sound};
 
-use libc::{STDIN_FILENO, STDOUT_FILENO};
 use records::{Record, is_held, record_at};
 use store::editions::LENGTH_2;
 use store::field::number_at;
+
+// The descriptors of standard input and output.
+const STANDARD_INPUT: i32 = 0;
+
+const STANDARD_OUTPUT: i32 = 1;
 
 // One byte more than the longest store: an input that fills it is none.
 const INPUT: usize = LENGTH_2 + 1;
@@ -16,12 +20,12 @@ const INPUT: usize = LENGTH_2 + 1;
 const KEY_COUNT: usize = 2;
 
 fn text(s: &[u8]) {
-    io::write_all(STDOUT_FILENO, s);
+    io::write_all(STANDARD_OUTPUT, s);
 }
 
 // Eight hex digits, and what stands behind them.
 fn word(x: u32, behind: &[u8]) {
-    io::print_hex(STDOUT_FILENO, x as u64, 8);
+    io::print_hex(STANDARD_OUTPUT, x as u64, 8);
     text(behind);
 }
 
@@ -53,6 +57,6 @@ fn periods(s: &[u8]) {
 
 fn main() {
     let mut input = [0u8; INPUT];
-    let n = io::read_full(STDIN_FILENO, &mut input);
+    let n = io::read_full(STANDARD_INPUT, &mut input);
     periods(&input[..n]);
 }

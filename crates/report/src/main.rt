@@ -4,9 +4,11 @@
 ghost use Rattle.std.specs.Prelude.{◌≡◌, ◌+◌, ◌≤◌, length};
 ghost use Rattle.sheet.specs.Row.{longest};
 
-use libc::{STDIN_FILENO, STDOUT_FILENO};
 use sheet::input::{LINE, take_line};
 use sheet::{ROW, Report, asks_file, put_last, put_line};
+use std::io::{Error, Read};
+use std::rt::Files;
+use std::{fs, str};
 use store::editions::LENGTH_2;
 
 // How far the report is.
@@ -27,16 +29,14 @@ const FILE: usize = LENGTH_2 + 1;
 const OUTPUT: usize = 4096;
 
 // Reads what there is to the front of a buffer, and answers how many bytes: none where a read fails, as many as fit where there are more.
-fn read_all(fd: i32, file: &mut [u8]) -> usize
+fn read_all(from: &mut impl Read, file: &mut [u8]) -> usize
     ensures { result ≤ length file.new }
 {
     let mut n = 0;
     while n < file.len() {
-        let got = libc::read(fd, &mut file[n..]);
-        if got < 0 {
+        let Ok(more) = from.read(&mut file[n..]) else {
             return 0;
-        }
-        let more = io::count(got, &file[n..]);
+        };
         if more == 0 {
             return n;
         }
@@ -45,38 +45,43 @@ fn read_all(fd: i32, file: &mut [u8]) -> usize
     n
 }
 
-// Reads a file to the front of a buffer, and answers how many bytes: none where it can't be read, as many as fit where it is longer.
-fn load(name: &[u8], file: &mut [u8]) -> usize
+// Reads a file to the front of a buffer, and answers how many bytes: none where it can't be read, as many as fit where it is longer. A name that is no UTF-8 opens no file.
+fn load(files: &impl Files, name: &[u8], file: &mut [u8]) -> usize
     ensures { result ≤ length file.new }
 {
-    let fd = os::open_read(name);
-    if fd < 0 {
+    let Ok(path) = str::from_utf8(name) else {
         return 0;
-    }
-    let n = read_all(fd, file);
-    libc::close(fd);
-    n
+    };
+    let Ok(mut opened) = fs::open(files, path) else {
+        return 0;
+    };
+    read_all(&mut opened, file)
 }
 
 // The file that a line names, where it is wanted.
-fn load_wanted(report: Report, line: &[u8], file: &mut [u8]) -> usize
+fn load_wanted(files: &impl Files, report: Report, line: &[u8], file: &mut [u8]) -> usize
     ensures { result ≤ length file.new }
 {
     if !asks_file(report, line) {
         return 0;
     }
-    load(line, file)
+    load(files, line, file)
+}
+
+// Says on standard error what failed, and why.
+fn say(rt: &impl Eprint, what: &str, why: Error) {
+    let _ = eprintln!(rt; "report: {what}: {why}");
 }
 
 // Writes out what waits. Where that fails nothing more is written.
-fn flush(p: Progress, out: &[u8]) -> Progress
+fn flush(rt: &(impl Print + Eprint), p: Progress, out: &[u8]) -> Progress
     requires { p.waiting ≤ length out.now }
     ensures { (result.waiting ≡ 0) × (result.filled ≡ p.filled) }
 {
     let n = p.waiting;
     let mut report = p.report;
-    if !io::write_all(STDOUT_FILENO, &out[..n]) {
-        os::fail(b"report: standard output");
+    if let Err(why) = rt.write_all(&out[..n]) {
+        say(rt, "standard output", why);
         report = Report::Over;
     }
     Progress {
@@ -88,25 +93,31 @@ fn flush(p: Progress, out: &[u8]) -> Progress
 }
 
 // Room for a line of output.
-fn with_room(p: Progress, out: &[u8]) -> Progress
+fn with_room(rt: &(impl Print + Eprint), p: Progress, out: &[u8]) -> Progress
     requires { (p.waiting ≤ length out.now) × (longest ≤ length out.now) }
     ensures { (result.waiting + longest ≤ length out.now) × (result.filled ≡ p.filled) }
 {
     if out.len() - p.waiting >= ROW {
         return p;
     }
-    flush(p, out)
+    flush(rt, p, out)
 }
 
 // A line of the input has come to its end.
-fn end_line(start: Progress, line: &[u8], file: &mut [u8], out: &mut [u8]) -> Progress
+fn end_line(
+    rt: &(impl Files + Print + Eprint),
+    start: Progress,
+    line: &[u8],
+    file: &mut [u8],
+    out: &mut [u8],
+) -> Progress
     requires { (start.waiting ≤ length out.old) × (longest ≤ length out.old) }
     ensures { (result.waiting ≤ length out.old) × (result.filled ≡ 0) }
 {
-    let p = with_room(start, out);
+    let p = with_room(rt, start, out);
     let at = p.waiting;
     let report = p.report;
-    let n = load_wanted(report, line, file);
+    let n = load_wanted(rt, report, line, file);
     let w = put_line(&mut out[at..], report, line, &file[..n]);
     let next = w.report;
     Progress {
@@ -118,7 +129,14 @@ fn end_line(start: Progress, line: &[u8], file: &mut [u8], out: &mut [u8]) -> Pr
 }
 
 // Works the lines that end in a chunk of the input.
-fn feed(start: Progress, chunk: &[u8], line: &mut [u8], file: &mut [u8], out: &mut [u8]) -> Progress
+fn feed(
+    rt: &(impl Files + Print + Eprint),
+    start: Progress,
+    chunk: &[u8],
+    line: &mut [u8],
+    file: &mut [u8],
+    out: &mut [u8],
+) -> Progress
     requires { (start.filled ≤ length line.old) × (start.waiting ≤ length out.old) × (longest ≤ length out.old) }
     ensures { (result.filled ≤ length line.old) × (result.waiting ≤ length out.old) }
 {
@@ -131,7 +149,7 @@ fn feed(start: Progress, chunk: &[u8], line: &mut [u8], file: &mut [u8], out: &m
         p.filled = cut.filled;
         if cut.ended {
             let n = cut.filled;
-            p = end_line(p, &line[..n], file, out);
+            p = end_line(rt, p, &line[..n], file, out);
         }
     }
     p
@@ -147,38 +165,58 @@ fn is_over(report: Report) -> bool {
 }
 
 // After a read of the input: more is wanted unless it gave nothing or the report is over. One that failed ends the report without its sums.
-fn after_read(p: Progress, got: isize) -> Progress
+fn after_read(rt: &impl Eprint, p: Progress, got: Result<usize, Error>) -> Progress
     ensures { (result.filled ≡ p.filled) × (result.waiting ≡ p.waiting) }
 {
     let mut report = p.report;
-    if got < 0 {
-        os::fail(b"report: standard input");
-        report = Report::Over;
-    }
+    let n = match got {
+        Ok(n) => n,
+        Err(why) => {
+            say(rt, "standard input", why);
+            report = Report::Over;
+            0
+        }
+    };
     let over = is_over(report);
     Progress {
         report,
         filled: p.filled,
         waiting: p.waiting,
-        more: got > 0 && !over,
+        more: n > 0 && !over,
     }
 }
 
 // Reads once and works the lines that end there. What is due is written out before the next read, which may wait.
-fn turn(start: Progress, line: &mut [u8], file: &mut [u8], out: &mut [u8]) -> Progress
+fn turn(
+    rt: &(impl Files + Print + Eprint),
+    input: &mut impl Read,
+    start: Progress,
+    line: &mut [u8],
+    file: &mut [u8],
+    out: &mut [u8],
+) -> Progress
     requires { (start.filled ≤ length line.old) × (start.waiting ≤ length out.old) × (longest ≤ length out.old) }
     ensures { (result.filled ≤ length line.old) × (result.waiting ≤ length out.old) }
 {
     let mut chunk = io::buffer();
-    let got = libc::read(STDIN_FILENO, &mut chunk);
-    let n = io::count(got, &chunk);
-    let fed = feed(start, &chunk[..n], line, file, out);
-    let p = flush(fed, out);
-    after_read(p, got)
+    let got = input.read(&mut chunk);
+    let n = match got {
+        Ok(n) => n,
+        Err(_) => 0,
+    };
+    let fed = feed(rt, start, &chunk[..n], line, file, out);
+    let p = flush(rt, fed, out);
+    after_read(rt, p, got)
 }
 
 // Nothing says that the input ends: the turns are counted down from a number that no run uses up.
-fn run(line: &mut [u8], file: &mut [u8], out: &mut [u8]) -> Progress
+fn run(
+    rt: &(impl Files + Print + Eprint),
+    input: &mut impl Read,
+    line: &mut [u8],
+    file: &mut [u8],
+    out: &mut [u8],
+) -> Progress
     requires { longest ≤ length out.old }
     ensures { (result.filled ≤ length line.old) × (result.waiting ≤ length out.old) }
 {
@@ -190,14 +228,20 @@ fn run(line: &mut [u8], file: &mut [u8], out: &mut [u8]) -> Progress
     };
     let mut turns = u64::MAX;
     while turns > 0 && p.more {
-        p = turn(p, line, file, out);
+        p = turn(rt, input, p, line, file, out);
         turns -= 1;
     }
     p
 }
 
 // A last line that has no line end.
-fn last_line(p: Progress, line: &[u8], file: &mut [u8], out: &mut [u8]) -> Progress
+fn last_line(
+    rt: &(impl Files + Print + Eprint),
+    p: Progress,
+    line: &[u8],
+    file: &mut [u8],
+    out: &mut [u8],
+) -> Progress
     requires { (p.filled ≤ length line.now) × (p.waiting ≤ length out.old) × (longest ≤ length out.old) }
     ensures { result.waiting ≤ length out.old }
 {
@@ -205,18 +249,19 @@ fn last_line(p: Progress, line: &[u8], file: &mut [u8], out: &mut [u8]) -> Progr
     if n == 0 {
         return p;
     }
-    end_line(p, &line[..n], file, out)
+    end_line(rt, p, &line[..n], file, out)
 }
 
 // What is written at the end of the input.
-fn close(start: Progress, out: &mut [u8])
+fn close(rt: &(impl Print + Eprint), start: Progress, out: &mut [u8])
     requires { (start.waiting ≤ length out.old) × (longest ≤ length out.old) }
 {
-    let p = with_room(start, out);
+    let p = with_room(rt, start, out);
     let at = p.waiting;
     let report = p.report;
     let n = put_last(&mut out[at..], report);
     flush(
+        rt,
         Progress {
             report,
             filled: 0,
@@ -227,11 +272,11 @@ fn close(start: Progress, out: &mut [u8])
     );
 }
 
-fn main() {
+fn main(rt: HostRuntime) {
     let mut line = [0u8; LINE];
     let mut file = [0u8; FILE];
     let mut out = [0u8; OUTPUT];
-    let p = run(&mut line, &mut file, &mut out);
-    let last = last_line(p, &line, &mut file, &mut out);
-    close(last, &mut out);
+    let p = run(&rt, &mut rt.stdin(), &mut line, &mut file, &mut out);
+    let last = last_line(&rt, p, &line, &mut file, &mut out);
+    close(&rt, last, &mut out);
 }

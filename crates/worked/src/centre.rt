@@ -124,7 +124,7 @@ fn k_structs(m: &mut [u8; MESSAGE_MOST], i: usize, first: Key, n: u16, step: u32
     let mut k: u16 = 0;
     while k < n {
         at = k_struct(m, at, key);
-        key.serial = std::num::wrapping_add_u32(key.serial, step);
+        key.serial = key.serial.wrapping_add(step);
         k += 1;
     }
     at

@@ -16,7 +16,7 @@ fn fifties(name: &[u8], s: &mut [u8], first: u32, n: u32) {
     let mut k: u32 = 0;
     while k < n {
         add_keys(name, s, key(serial, 8), 50, 1);
-        serial = std::num::wrapping_add_u32(serial, 50);
+        serial = serial.wrapping_add(50);
         k += 1;
     }
 }

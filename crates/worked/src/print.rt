@@ -1,12 +1,14 @@
 // What the cases print: a line each.
 use crate::wire::front;
-use libc::STDOUT_FILENO;
 use message::written::HEAD;
 use octets::{get16_at, get32_at};
 use refusal::Refusal;
 use session::{Received, Session};
 use store::field::number_at;
 use store::{Found, KEYS_AT, RECORD};
+
+// The descriptor of standard output.
+const STANDARD_OUTPUT: i32 = 1;
 
 // Where RESPONSE and REQ-NUM stand in a reply, and the RESPONSE of a command that was worked (000, 5.3.15).
 const RESPONSE_AT: usize = 20;
@@ -16,12 +18,12 @@ const REQ_NUM_AT: usize = 21;
 const DONE: u8 = 0;
 
 fn text(b: &[u8]) {
-    io::write_all(STDOUT_FILENO, b);
+    io::write_all(STANDARD_OUTPUT, b);
 }
 
 fn number(x: u64) {
     text(b" ");
-    io::print_decimal(STDOUT_FILENO, x);
+    io::print_decimal(STANDARD_OUTPUT, x);
 }
 
 fn byte(x: u8) {
@@ -64,7 +66,7 @@ fn replied(reply: &[u8]) {
 
 fn refused(h: Refusal) {
     text(b" H");
-    io::print_decimal(STDOUT_FILENO, refusal::house_number(h) as u64);
+    io::print_decimal(STANDARD_OUTPUT, refusal::house_number(h) as u64);
 }
 
 // The name, and what is answered.

@@ -1,11 +1,8 @@
 -- `store::find_in` meets its contract.
 use mathlib.Core.Path.{sym, ◌∙◌}
-use Prim.Native.Nat.{◌-◌}
 use native.Mathlib.Omega.{arith}
-use borrow.Author.Tests.{not-true, not-false}
 use Rattle.store.proofs.SoundLaws.{sound-says}
 use Rattle.store.proofs.SearchLaws.{find-unsound, find_at, find_none}
-use borrow.Author.Rules.{rules}
 use Rattle.store.proofs.find_in.Goals as goal
 
 pub returns-then-not-is_sound : goal.returns-then-not-is_sound

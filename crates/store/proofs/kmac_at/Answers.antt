@@ -5,7 +5,6 @@ use Prim.Native.Nat.{ℕ, ◌+◌, ◌-◌, ◌*◌}
 use native.Mathlib.Omega.{arith}
 use Rattle.octets.specs.Bytes.{part}
 use Rattle.store.proofs.SearchLaws.{kmac_long}
-use borrow.Author.Rules.{rules}
 use Rattle.store.proofs.kmac_at.Goals as goal
 
 pub returns : goal.returns

@@ -1,7 +1,5 @@
 -- `store::write_empty` meets its contract.
-use Prim.Native.Nat.{◌-◌}
 use Rattle.store.proofs.EmptyLaws.{empty-written}
-use borrow.Author.Rules.{rules}
 use Rattle.store.proofs.write_empty.Goals as goal
 
 pub returns : goal.returns

@@ -1,6 +1,4 @@
 -- `store::editions::edition_of` meets its contract.
-use lib.ListN.{length}
-use Prim.Native.Nat.{◌-◌}
 use borrow.Author.Tests.{eq-eqb, ne_eqb}
 use Rattle.store.specs.Layout.{edition_of, edition_in}
 use Rattle.store.proofs.editions.edition_of.Goals as goal

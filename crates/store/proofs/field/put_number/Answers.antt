@@ -1,9 +1,7 @@
 -- `store::field::put_number` meets its contract.
 use mathlib.Core.Path.{ap, ◌∙◌}
-use Prim.Native.Nat.{◌-◌}
 use Rattle.octets.specs.Bytes.{splice}
 use Rattle.octets.proofs.WordLaws.{be16_mod}
-use borrow.Author.Rules.{rules}
 use Rattle.store.proofs.field.put_number.Goals as goal
 
 pub returns : goal.returns

@@ -1,10 +1,8 @@
-use mathlib.Core.Path.{◌≡◌, sym, ◌∙◌}
-use Prim.Native.Nat.{◌-◌, ◌≤◌}
+use mathlib.Core.Path.{sym, ◌∙◌}
 use native.Mathlib.Omega.{arith}
-use Rattle.store.specs.Store.{key_count}
 use Rattle.store.specs.Search.{serves}
 use Rattle.store.proofs.SoundLaws.{sound-says}
-use Rattle.store.proofs.LatestLaws.{Best, best_start, best_here, best_past, best_less, best_all}
+use Rattle.store.proofs.LatestLaws.{best_start, best_here, best_past, best_less, best_all}
 use Rattle.store.proofs.search.chosen.Goals as goal
 
 pub number_at-n-requires : goal.number_at-n-requires

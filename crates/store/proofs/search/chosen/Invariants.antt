@@ -1,11 +1,9 @@
 -- `store::search::chosen` meets its contract. The loop's invariant: what is taken is the choice among the records from i on.
-use mathlib.Core.Path.{◌≡◌, sym, ◌∙◌}
-use Prim.Native.Nat.{◌-◌, ◌≤◌}
-use native.Mathlib.Omega.{arith}
+use mathlib.Core.Path.{◌≡◌}
+use Prim.Native.Nat.{◌≤◌}
 use Rattle.store.specs.Store.{key_count}
 use Rattle.store.specs.Search.{serves}
-use Rattle.store.proofs.SoundLaws.{sound-says}
-use Rattle.store.proofs.LatestLaws.{Best, best_start, best_here, best_past, best_less, best_all}
+use Rattle.store.proofs.LatestLaws.{Best}
 use Rattle.store.proofs.search.chosen.Given as goal
 
 abbrev pub invariant-loop-i : goal.invariant-loop-i

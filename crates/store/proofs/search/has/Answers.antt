@@ -1,9 +1,6 @@
-use mathlib.Core.Path.{◌≡◌, sym, ◌∙◌}
-use lib.ListN.{length}
-use Prim.Native.Nat.{◌+◌, ◌-◌, ◌*◌, ◌≤◌}
+use mathlib.Core.Path.{sym, ◌∙◌}
 use native.Mathlib.Omega.{arith}
 use native.Mathlib.Nat.{sub-zero}
-use Rattle.octets.specs.Words.{numbers, elem}
 use Rattle.octets.proofs.WordLaws.{elem_turn, elem-here, elem_end}
 use Rattle.store.proofs.search.has.Goals as goal
 

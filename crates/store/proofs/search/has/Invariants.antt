@@ -1,11 +1,8 @@
 -- `store::search::has` meets its contract. The loop's invariant: what is left decides.
-use mathlib.Core.Path.{◌≡◌, sym, ◌∙◌}
+use mathlib.Core.Path.{◌≡◌}
 use lib.ListN.{length}
 use Prim.Native.Nat.{◌+◌, ◌-◌, ◌*◌, ◌≤◌}
-use native.Mathlib.Omega.{arith}
-use native.Mathlib.Nat.{sub-zero}
 use Rattle.octets.specs.Words.{numbers, elem}
-use Rattle.octets.proofs.WordLaws.{elem_turn, elem-here, elem_end}
 use Rattle.store.proofs.search.has.Given as goal
 
 abbrev pub invariant-loop-k : goal.invariant-loop-k

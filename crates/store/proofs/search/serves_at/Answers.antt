@@ -1,57 +1,45 @@
 -- `store::search::serves_at` meets its contract.
 use mathlib.Core.Path.{◌≡◌, sym, ap, ap₂, ◌∙◌}
 use mathlib.Core.Bool.{Bool, true, false, ◌&&◌}
-use Prim.Native.Nat.{ℕ, ◌+◌, ◌-◌, ◌*◌}
+use Prim.Native.Nat.{ℕ, ◌+◌, ◌*◌}
 use native.Mathlib.Omega.{arith}
-use borrow.Author.Tests.{not-true, not-false}
 use Rattle.octets.specs.Words.{numbers, elem}
 use Rattle.octets.proofs.BoolLaws.{and_false_left}
 use Rattle.store.specs.Layout.{peers_at}
 use Rattle.store.specs.Store.{entry_at}
 use Rattle.store.specs.Search.{fits}
-use Rattle.store.proofs.SearchLaws.{Room, room}
-use borrow.Author.Rules.{rules}
+use Rattle.store.proofs.SearchLaws.{room}
 use Rattle.store.proofs.search.serves_at.Goals as goal
 
 pub overflow_mul-peers_at : goal.overflow_mul-peers_at
-overflow_mul-peers_at c = let r = (let a = c.args in
-    room a.lim a.s.now a.i (λ j. (c.type_inv.s j).fits) c.requires.s_value c.requires.i_bound) in omega arith
+overflow_mul-peers_at c = let r = room c.args.lim c.args.s.now c.args.i (λ j. (c.type_inv.s j).fits) c.requires.s_value c.requires.i_bound in omega arith
 
 pub overflow_add-peers_at : goal.overflow_add-peers_at
-overflow_add-peers_at c = let r = (let a = c.args in
-    room a.lim a.s.now a.i (λ j. (c.type_inv.s j).fits) c.requires.s_value c.requires.i_bound) in omega arith
+overflow_add-peers_at c = let r = room c.args.lim c.args.s.now c.args.i (λ j. (c.type_inv.s j).fits) c.requires.s_value c.requires.i_bound in omega arith
 
 pub overflow_mul-at : goal.overflow_mul-at
-overflow_mul-at c = let r = (let a = c.args in
-    room a.lim a.s.now a.i (λ j. (c.type_inv.s j).fits) c.requires.s_value c.requires.i_bound) in omega arith
+overflow_mul-at c = let r = room c.args.lim c.args.s.now c.args.i (λ j. (c.type_inv.s j).fits) c.requires.s_value c.requires.i_bound in omega arith
 
 pub overflow_add-at : goal.overflow_add-at
-overflow_add-at c = let r = (let a = c.args in
-    room a.lim a.s.now a.i (λ j. (c.type_inv.s j).fits) c.requires.s_value c.requires.i_bound) in omega arith
+overflow_add-at c = let r = room c.args.lim c.args.s.now c.args.i (λ j. (c.type_inv.s j).fits) c.requires.s_value c.requires.i_bound in omega arith
 
 pub overflow_add-at-2 : goal.overflow_add-at-2
-overflow_add-at-2 c = let r = (let a = c.args in
-    room a.lim a.s.now a.i (λ j. (c.type_inv.s j).fits) c.requires.s_value c.requires.i_bound) in omega arith
+overflow_add-at-2 c = let r = room c.args.lim c.args.s.now c.args.i (λ j. (c.type_inv.s j).fits) c.requires.s_value c.requires.i_bound in omega arith
 
 pub number_at-first-requires : goal.number_at-first-requires
-number_at-first-requires c = let r = (let a = c.args in
-    room a.lim a.s.now a.i (λ j. (c.type_inv.s j).fits) c.requires.s_value c.requires.i_bound) in omega arith
+number_at-first-requires c = let r = room c.args.lim c.args.s.now c.args.i (λ j. (c.type_inv.s j).fits) c.requires.s_value c.requires.i_bound in omega arith
 
 pub overflow_add-at-3 : goal.overflow_add-at-3
-overflow_add-at-3 c = let r = (let a = c.args in
-    room a.lim a.s.now a.i (λ j. (c.type_inv.s j).fits) c.requires.s_value c.requires.i_bound) in omega arith
+overflow_add-at-3 c = let r = room c.args.lim c.args.s.now c.args.i (λ j. (c.type_inv.s j).fits) c.requires.s_value c.requires.i_bound in omega arith
 
 pub number_at-count-requires : goal.number_at-count-requires
-number_at-count-requires c = let r = (let a = c.args in
-    room a.lim a.s.now a.i (λ j. (c.type_inv.s j).fits) c.requires.s_value c.requires.i_bound) in omega arith
+number_at-count-requires c = let r = room c.args.lim c.args.s.now c.args.i (λ j. (c.type_inv.s j).fits) c.requires.s_value c.requires.i_bound in omega arith
 
 pub overflow_add-peers_at-2 : goal.overflow_add-peers_at-2
-overflow_add-peers_at-2 c = let r = (let a = c.args in
-    room a.lim a.s.now a.i (λ j. (c.type_inv.s j).fits) c.requires.s_value c.requires.i_bound) in omega arith
+overflow_add-peers_at-2 c = let r = room c.args.lim c.args.s.now c.args.i (λ j. (c.type_inv.s j).fits) c.requires.s_value c.requires.i_bound in omega arith
 
 pub has-requires : goal.has-requires
-has-requires c = let r = (let a = c.args in
-    room a.lim a.s.now a.i (λ j. (c.type_inv.s j).fits) c.requires.s_value c.requires.i_bound) in omega arith
+has-requires c = let r = room c.args.lim c.args.s.now c.args.i (λ j. (c.type_inv.s j).fits) c.requires.s_value c.requires.i_bound in omega arith
 
 pub returns-then-not-has : goal.returns-then-not-has
 returns-then-not-has c =
@@ -66,12 +54,10 @@ returns-then-not-has c =
     sym (and_false_left (elem peer e.peers) (fits e.start e.end c.args.t) peers)
 
 pub overflow_add-at-4 : goal.overflow_add-at-4
-overflow_add-at-4 c = let r = (let a = c.args in
-    room a.lim a.s.now a.i (λ j. (c.type_inv.s j).fits) c.requires.s_value c.requires.i_bound) in omega arith
+overflow_add-at-4 c = let r = room c.args.lim c.args.s.now c.args.i (λ j. (c.type_inv.s j).fits) c.requires.s_value c.requires.i_bound in omega arith
 
 pub get32_at-requires : goal.get32_at-requires
-get32_at-requires c = let r = (let a = c.args in
-    room a.lim a.s.now a.i (λ j. (c.type_inv.s j).fits) c.requires.s_value c.requires.i_bound) in omega arith
+get32_at-requires c = let r = room c.args.lim c.args.s.now c.args.i (λ j. (c.type_inv.s j).fits) c.requires.s_value c.requires.i_bound in omega arith
 
 pub end_at-requires : goal.end_at-requires
 end_at-requires c =
@@ -88,6 +74,6 @@ returns c =
     ∙ sym c.has.ensures ∙ c.if-not-has.false in
     let e = entry_at L s i in
     let t = c.args.t in
-    c.fits2.ensures
+    c.fits.ensures
     ∙ ap₂ (λ (x y : ℕ). fits x y t) c.get32_at.ensures c.end_at.ensures
     ∙ sym (ap (λ (x : Bool). x && fits e.start e.end t) peers)

@@ -1,15 +1,15 @@
 use mathlib.Core.Path.{◌≡◌, refl, sym, ap, ◌∙◌}
-use mathlib.Core.Bool.{Bool, true}
+use mathlib.Core.Bool.{Bool}
 use mathlib.Core.List.{List}
 use lib.ListN.{length, get_or}
-use Prim.Native.Nat.{ℕ, ◌+◌, ◌-◌, ◌%◌, ◌≤◌, ◌<◌}
+use Prim.Native.Nat.{ℕ, ◌+◌, ◌%◌, ◌<◌}
 use native.Mathlib.Omega.{arith}
 use borrow.Author.Tests.{eq-eqb, ne_eqb}
 use Rattle.octets.specs.Bytes.{part, all_below}
 use Rattle.octets.proofs.BoolLaws.{all_below_more, all_below_fails}
 use lib.Count.{ones}
 use Rattle.octets.proofs.PartLaws.{part_at, part_length}
-use Rattle.store.specs.Store.{is_odd, all_odd}
+use Rattle.store.specs.Store.{all_odd}
 use Rattle.store.proofs.sound.all_odd.Invariants.{oddAt}
 use Rattle.store.proofs.sound.all_odd.Goals as goal
 

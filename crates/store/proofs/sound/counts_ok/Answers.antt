@@ -2,12 +2,11 @@
 use mathlib.Core.Path.{sym, ap, ◌∙◌}
 use mathlib.Core.Bool.{Bool, ◌&&◌}
 use lib.Dec.{leb}
-use Prim.Native.Nat.{ℕ, ◌-◌}
+use Prim.Native.Nat.{ℕ}
 use native.Mathlib.Omega.{arith}
 use borrow.Author.Tests.{le-leb, lt-leb}
 use Rattle.octets.proofs.BoolLaws.{and_false_left}
 use Rattle.store.specs.Store.{key_count, peer_count, counts_ok}
-use borrow.Author.Rules.{rules}
 use Rattle.store.proofs.sound.counts_ok.Goals as goal
 
 pub returns-then-keys-number_at : goal.returns-then-keys-number_at

@@ -3,12 +3,11 @@ use mathlib.Core.Path.{sym, ap, ◌∙◌}
 use mathlib.Core.Bool.{Bool}
 use lib.Dec.{eqb}
 use mathlib.Core.List.{[], ◌∷◌}
-use Prim.Native.Nat.{ℕ, ◌-◌}
+use Prim.Native.Nat.{ℕ}
 use Rattle.octets.specs.Bytes.{get16}
 use Rattle.store.specs.Layout.{peers_at, total}
 use Rattle.store.specs.Store.{header_tests, header_ok}
 use Rattle.store.proofs.SoundLaws.{all_hold-none, all_hold-cons, all_hold-last, all_hold_fails, reads_is, reads_not}
-use borrow.Author.Rules.{rules}
 use Rattle.store.proofs.sound.header_ok.Goals as goal
 
 pub returns-then-number_at-edition : goal.returns-then-number_at-edition

@@ -1,13 +1,10 @@
 -- `store::sound::is_sound` meets its contract.
 use mathlib.Core.Path.{sym, ◌∙◌}
 use lib.ListN.{length}
-use Prim.Native.Nat.{◌-◌, ◌≤◌}
 use native.Mathlib.Omega.{arith}
-use borrow.Author.Tests.{eq-eqb, ne_eqb, not-true, not-false}
+use borrow.Author.Tests.{eq-eqb, ne_eqb}
 use Rattle.store.specs.Layout.{total}
-use Rattle.store.specs.Store.{key_count, peer_count}
 use Rattle.store.proofs.SoundLaws.{unsound, unused_decides, counts_ok-says}
-use borrow.Author.Rules.{rules}
 use Rattle.store.proofs.sound.is_sound.Goals as goal
 
 pub returns-then-s-keys : goal.returns-then-s-keys
@@ -26,8 +23,7 @@ returns-then-not-counts_ok c =
     sym (unsound a.lim a.s.now 2 (sym c.counts_ok.ensures ∙ c.if-not-counts_ok.true))
 
 pub sums_ok-requires : goal.sums_ok-requires
-sums_ok-requires c = omega (arith, ((let a = c.args in
-    counts_ok-says a.lim a.s.now (sym c.counts_ok.ensures ∙ c.if-not-counts_ok.false))).0)
+sums_ok-requires c = omega (arith, (counts_ok-says c.args.lim c.args.s.now (sym c.counts_ok.ensures ∙ c.if-not-counts_ok.false)).0)
 
 pub returns-then-not-sums_ok : goal.returns-then-not-sums_ok
 returns-then-not-sums_ok c =
@@ -36,8 +32,7 @@ returns-then-not-sums_ok c =
 
 pub unique_ok-requires : goal.unique_ok-requires
 unique_ok-requires c =
-    omega (arith, ((let a = c.args in
-    counts_ok-says a.lim a.s.now (sym c.counts_ok.ensures ∙ c.if-not-counts_ok.false))).0)
+    omega (arith, (counts_ok-says c.args.lim c.args.s.now (sym c.counts_ok.ensures ∙ c.if-not-counts_ok.false)).0)
 
 pub returns-then-not-unique_ok : goal.returns-then-not-unique_ok
 returns-then-not-unique_ok c =
@@ -46,8 +41,7 @@ returns-then-not-unique_ok c =
 
 pub parity_ok-requires : goal.parity_ok-requires
 parity_ok-requires c =
-    omega (arith, ((let a = c.args in
-    counts_ok-says a.lim a.s.now (sym c.counts_ok.ensures ∙ c.if-not-counts_ok.false))).0)
+    omega (arith, (counts_ok-says c.args.lim c.args.s.now (sym c.counts_ok.ensures ∙ c.if-not-counts_ok.false)).0)
 
 pub returns-then-not-parity_ok : goal.returns-then-not-parity_ok
 returns-then-not-parity_ok c =
@@ -56,8 +50,7 @@ returns-then-not-parity_ok c =
 
 pub unused_ok-requires : goal.unused_ok-requires
 unused_ok-requires c =
-    (c.requires, (c.if-s-keys.false, (let a = c.args in
-    counts_ok-says a.lim a.s.now (sym c.counts_ok.ensures ∙ c.if-not-counts_ok.false))))
+    record { bounded = c.requires; s_len = c.if-s-keys.false; s_bound = counts_ok-says c.args.lim c.args.s.now (sym c.counts_ok.ensures ∙ c.if-not-counts_ok.false) }
 
 pub returns : goal.returns
 returns c =

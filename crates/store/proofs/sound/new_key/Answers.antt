@@ -1,13 +1,9 @@
 use mathlib.Core.Path.{◌≡◌, refl, sym, ap, ◌∙◌}
-use mathlib.Core.Bool.{Bool, true, not}
-use mathlib.Core.List.{List}
-use lib.ListN.{length}
-use Prim.Native.Nat.{ℕ, ◌+◌, ◌-◌, ◌≤◌, ◌<◌}
+use mathlib.Core.Bool.{not}
 use native.Mathlib.Omega.{arith}
 use Rattle.octets.specs.Bytes.{all_below}
 use Rattle.octets.proofs.BoolLaws.{all_below_more, all_below_fails}
-use Rattle.store.specs.Layout.{record_at}
-use Rattle.store.specs.Store.{same_key, new_key}
+use Rattle.store.specs.Store.{new_key}
 use Rattle.store.proofs.sound.new_key.Invariants.{other}
 use Rattle.store.proofs.sound.new_key.Goals as goal
 

@@ -1,14 +1,12 @@
 -- `store::sound::new_key` meets its contract. The loop's invariant: no record passed has the key of record i.
-use mathlib.Core.Path.{◌≡◌, refl, sym, ap, ◌∙◌}
+use mathlib.Core.Path.{◌≡◌}
 use mathlib.Core.Bool.{Bool, true, not}
 use mathlib.Core.List.{List}
 use lib.ListN.{length}
 use Prim.Native.Nat.{ℕ, ◌+◌, ◌-◌, ◌≤◌, ◌<◌}
-use native.Mathlib.Omega.{arith}
 use Rattle.octets.specs.Bytes.{all_below}
-use Rattle.octets.proofs.BoolLaws.{all_below_more, all_below_fails}
 use Rattle.store.specs.Layout.{record_at}
-use Rattle.store.specs.Store.{same_key, new_key}
+use Rattle.store.specs.Store.{same_key}
 use Rattle.store.proofs.sound.new_key.Given as goal
 
 -- record j has another key than record i

@@ -1,15 +1,12 @@
 -- `store::sound::parity_ok` meets its contract. The loop's invariant: each KMAC passed is of odd parity.
-use mathlib.Core.Path.{◌≡◌, refl, sym, ◌∙◌}
+use mathlib.Core.Path.{◌≡◌}
 use mathlib.Core.Bool.{Bool, true}
 use mathlib.Core.List.{List}
 use lib.ListN.{length}
 use Prim.Native.Nat.{ℕ, ◌-◌, ◌≤◌, ◌<◌}
-use native.Mathlib.Omega.{arith}
-use borrow.Author.Tests.{not-true, not-false}
 use Rattle.octets.specs.Bytes.{all_below}
-use Rattle.octets.proofs.BoolLaws.{all_below_more, all_below_fails}
 use Rattle.store.specs.Layout.{record_at}
-use Rattle.store.specs.Store.{key_count, kmac_at, all_odd, parity_ok}
+use Rattle.store.specs.Store.{key_count, kmac_at, all_odd}
 use Rattle.store.proofs.sound.parity_ok.Given as goal
 
 -- the KMAC of record i is of odd parity

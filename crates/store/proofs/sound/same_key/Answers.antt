@@ -2,12 +2,11 @@
 use mathlib.Core.Path.{sym, ap, ap₂, ◌∙◌}
 use mathlib.Core.Bool.{Bool, ◌&&◌}
 use lib.Dec.{eqb}
-use Prim.Native.Nat.{ℕ, ◌+◌, ◌-◌}
+use Prim.Native.Nat.{ℕ, ◌+◌}
 use borrow.Author.Tests.{eq-eqb, ne_eqb}
 use Rattle.octets.specs.Bytes.{get32}
 use Rattle.octets.proofs.BoolLaws.{and_false_left}
 use Rattle.store.specs.Layout.{record_at}
-use borrow.Author.Rules.{rules}
 use Rattle.store.proofs.sound.same_key.Goals as goal
 
 pub returns-then-get32_at : goal.returns-then-get32_at

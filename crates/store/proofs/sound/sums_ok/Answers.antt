@@ -1,14 +1,12 @@
 use mathlib.Core.Path.{◌≡◌, refl, sym, ap, ap₂, ◌∙◌}
 use mathlib.Core.Bool.{Bool, true, ◌&&◌}
 use lib.Dec.{eqb}
-use lib.ListN.{length}
-use Prim.Native.Nat.{ℕ, ◌+◌, ◌-◌, ◌*◌, ◌≤◌, ◌<◌}
+use Prim.Native.Nat.{ℕ, ◌+◌}
 use native.Mathlib.Omega.{arith}
 use native.Mathlib.Numerals.{add-one}
 use borrow.Author.Tests.{eq-eqb, ne_eqb}
 use Rattle.octets.specs.Bytes.{all_below}
 use Rattle.octets.proofs.BoolLaws.{and_false_left, all_below_more, all_below_fails}
-use Rattle.store.specs.Layout.{record_at}
 use Rattle.store.specs.Store.{key_count, peer_count, first, sum_before, sum_at, sums_ok}
 use Rattle.store.proofs.sound.sums_ok.Goals as goal
 

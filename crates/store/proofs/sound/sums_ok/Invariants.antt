@@ -1,16 +1,11 @@
 -- `store::sound::sums_ok` meets its contract. The loop's invariant: the sums passed hold, and `sum` is the sum so far.
-use mathlib.Core.Path.{◌≡◌, refl, sym, ap, ap₂, ◌∙◌}
-use mathlib.Core.Bool.{Bool, true, ◌&&◌}
-use lib.Dec.{eqb}
+use mathlib.Core.Path.{◌≡◌}
+use mathlib.Core.Bool.{true}
 use lib.ListN.{length}
-use Prim.Native.Nat.{ℕ, ◌+◌, ◌-◌, ◌*◌, ◌≤◌, ◌<◌}
-use native.Mathlib.Omega.{arith}
-use native.Mathlib.Numerals.{add-one}
-use borrow.Author.Tests.{eq-eqb, ne_eqb}
+use Prim.Native.Nat.{◌-◌, ◌*◌, ◌≤◌, ◌<◌}
 use Rattle.octets.specs.Bytes.{all_below}
-use Rattle.octets.proofs.BoolLaws.{and_false_left, all_below_more, all_below_fails}
 use Rattle.store.specs.Layout.{record_at}
-use Rattle.store.specs.Store.{key_count, peer_count, first, sum_before, sum_at, sums_ok}
+use Rattle.store.specs.Store.{key_count, peer_count, sum_before, sum_at}
 use Rattle.store.proofs.sound.sums_ok.Given as goal
 
 abbrev pub invariant-loop-i : goal.invariant-loop-i

@@ -1,17 +1,14 @@
 use mathlib.Core.Path.{◌≡◌, refl, sym, ap, ◌∙◌}
 use mathlib.Core.Bool.{true, false}
-use mathlib.Core.Logic.{⊎_elim}
-use lib.ListN.{length, get_or, length-set}
-use Prim.Native.Nat.{◌-◌, ◌≤◌, ◌<◌}
+use lib.ListN.{get_or, length-set}
 use native.Mathlib.Omega.{arith}
-use borrow.Author.Tests.{not-true, not-false}
 use Rattle.octets.specs.Bytes.{all_below}
 use Rattle.octets.proofs.BoolLaws.{all_below_more, all_below_fails}
-use Rattle.store.specs.Layout.{record_at}
 use Rattle.store.specs.Store.{key_count, new_key, unique_ok}
 use Rattle.store.specs.Slots.{slot_of, fingerprint_of, suspect, marked_by}
-use Rattle.store.proofs.SlotLaws.{Marked, marked-none, marked_more, not-suspect-new}
+use Rattle.store.proofs.SlotLaws.{marked-none, marked_more, not-suspect-new}
 use Rattle.store.proofs.sound.unique_ok.Goals as goal
+use Rattle.store.proofs.sound.unique_ok.Goals.{then-is_suspect+else-not-new_key, else-is_suspect}
 
 pub loop-i-init : goal.loop-i-init
 unfolding all_below
@@ -49,7 +46,7 @@ loop-i-preserved c =
     let k = c.slot_of-k.result in
     let passed : c.is_suspect.result ≡ false → new_key s i ≡ true =
     λ f. not-suspect-new s i k marks c.loop-i.invariant.6 (c.slot_of-k.ensures.0 ∙ ap slot_of c.hash_at-hash.ensures) (ap (suspect (get_or marks k 0)) (sym (c.fingerprint_of-fingerprint.ensures ∙ ap fingerprint_of c.hash_at-hash.ensures)) ∙ sym c.is_suspect.ensures ∙ f) in
-    let is-new : new_key s i ≡ true = ⊎_elim (λ t. sym t.1.ensures ∙ not-false t.1.result t.2.left) (λ t. passed t.left) c.if-is_suspect.branch in (
+    let is-new : new_key s i ≡ true = elim c.if-is_suspect.branch [ then-is_suspect+else-not-new_key w ↦ sym w.new_key.ensures ∙ w.if-not-new_key.false | else-is_suspect w ↦ passed w.if-is_suspect.false ] in (
       omega arith,
       c.loop-i.invariant.1,
       c.loop-i.invariant.2,

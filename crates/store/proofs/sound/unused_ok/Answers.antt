@@ -3,11 +3,9 @@ use mathlib.Core.Path.{◌≡◌, sym, ap, ◌∙◌}
 use mathlib.Core.Bool.{Bool, true, ◌&&◌}
 use mathlib.Core.List.{List}
 use Prim.Native.Nat.{ℕ, ◌+◌, ◌-◌, ◌*◌}
-use borrow.Author.Tests.{not-true, not-false}
 use Rattle.octets.specs.Bytes.{part, all_zero}
 use Rattle.octets.proofs.BoolLaws.{and_false_left}
 use Rattle.store.specs.Store.{key_count, peer_count, unused_ok}
-use borrow.Author.Rules.{rules}
 use Rattle.store.proofs.sound.unused_ok.Goals as goal
 
 -- the unused key records, by their number, and the unused peers
