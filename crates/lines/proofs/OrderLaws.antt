@@ -1,13 +1,13 @@
 -- Laws of what a line asks.
 -- Assumes nothing.
-use mathlib.Core.Bool.{Bool, true, false, not}
+use mathlib.Core.Bool.{Bool, true, false}
 use mathlib.Core.List.{List}
 use mathlib.Core.Path.{◌≡◌, sym}
 use Prim.Native.Nat.{ℕ, ◌+◌, ◌≤◌, ◌<◌}
 use native.Mathlib.Omega.{arith}
 use lib.Dec.{eqb}
 use lib.ListN.{length, get_or}
-use borrow.Author.Tests.{lt-ltb, le-ltb, not-true, not-false}
+use borrow.Author.Tests.{lt-ltb, le-ltb}
 use Rattle.lines.specs.Connections.{verb_fields}
 use Rattle.lines.specs.Orders.{fields_order, command_of, field_count, has_word, command_order, named_order, order_of}
 use Rattle.lines.specs.Words.{word}
@@ -51,17 +51,17 @@ few-fields TheCommand.Help = omega arith
 
 -- the tests for words that are missing, and for words too many
 module _ (c : Command) (s : List ℕ) (n : ℕ) (p : n ≡ field_count c) (r : Bool) (h : r ≡ has_word s n) where
-  pub too_few : not r ≡ true → Order.Bad Fault.TooFewWords c ≡ command_order c s
+  pub too_few : r ≡ false → Order.Bad Fault.TooFewWords c ≡ command_order c s
   unfolding command_order
-  too_few t = simp (sym p, sym h, not-true r t)
+  too_few t = simp (sym p, sym h, t)
 
-  pub too_many : (q : Bool) → not r ≡ false → q ≡ has_word s (n + 1) → q ≡ true → Order.Bad Fault.TooManyWords c ≡ command_order c s
+  pub too_many : (q : Bool) → r ≡ true → q ≡ has_word s (n + 1) → q ≡ true → Order.Bad Fault.TooManyWords c ≡ command_order c s
   unfolding command_order
-  too_many q t k e = simp (sym p, sym h, not-false r t, sym k, e)
+  too_many q t k e = simp (sym p, sym h, t, sym k, e)
 
-  pub all_words : (q : Bool) → not r ≡ false → q ≡ has_word s (n + 1) → q ≡ false → fields_order c s ≡ command_order c s
+  pub all_words : (q : Bool) → r ≡ true → q ≡ has_word s (n + 1) → q ≡ false → fields_order c s ≡ command_order c s
   unfolding command_order
-  all_words q t k e = simp (sym p, sym h, not-false r t, sym k, e)
+  all_words q t k e = simp (sym p, sym h, t, sym k, e)
 
 -- ---- lines
 

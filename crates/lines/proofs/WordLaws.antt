@@ -3,7 +3,7 @@
 use mathlib.Core.Bool.{Bool, true, false, ◌&&◌}
 use mathlib.Core.Path.{◌≡◌, refl, sym, ap, ◌∙◌}
 use mathlib.Core.List.{List, [], ◌∷◌}
-use Prim.Native.Nat.{ℕ, zero, suc, ◌+◌, ◌-◌, ◌≤◌, ◌<◌}
+use Prim.Native.Nat.{ℕ, suc, ◌+◌, ◌-◌, ◌≤◌, ◌<◌}
 use native.Mathlib.Numerals.{add-one}
 use native.Mathlib.Omega.{arith}
 use lib.ListN.{length, get_or, take, drop, drop_of_length-le}
@@ -15,7 +15,7 @@ use Rattle.octets.proofs.BoolLaws.{and_false_right}
 use Rattle.lines.specs.Digits.{pick_number}
 use Rattle.lines.specs.Words.{in_class, before, first_from, word_start, word}
 use Rattle.lines.specs.declared.words.Class.{Class}
-use Rattle.lines.specs.declared.words.Class.TheVariants.{LineEnd, Blank, Letter}
+use Rattle.lines.specs.declared.words.Class.TheVariants.{Blank, Letter}
 
 -- ---- the first element of a class
 

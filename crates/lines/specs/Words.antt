@@ -1,6 +1,6 @@
 -- The words of a line: what stands between blanks.
 -- Assumes nothing.
-use Rattle.std.specs.Prelude.{Bool, true, false, ◌||◌, not, List, [], ◌∷◌, ◌≡◌, ℕ, zero, suc, ◌+◌, ◌-◌, ◌≤◌, eqb, length, drop}
+use Rattle.std.specs.Prelude.{Bool, ◌||◌, not, List, [], ◌∷◌, ◌≡◌, ℕ, zero, suc, ◌+◌, ◌-◌, ◌≤◌, eqb, length, drop}
 use Rattle.octets.specs.Bytes.{part}
 use Rattle.lines.specs.Digits.{pick_number}
 use Rattle.lines.specs.declared.words.Class.{Class}

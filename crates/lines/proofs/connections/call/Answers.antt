@@ -1,0 +1,33 @@
+-- `lines::connections::call` meets its contract.
+use mathlib.Core.Path.{sym}
+use Rattle.lines.specs.Connections.{asked_of}
+use native.Mathlib.Omega.{arith}
+use Rattle.lines.proofs.connections.call.Goals as goal
+
+pub returns-in-Bad : goal.returns-in-Bad
+unfolding asked_of
+returns-in-Bad c =
+    simp (sym c.hex_field.ensures.is, c.in-Bad.is)
+
+pub returns-in-Bad-hex_field : goal.returns-in-Bad-hex_field
+unfolding asked_of
+returns-in-Bad-hex_field c =
+    simp (sym c.hex_field.ensures.is, c.in-Value.is, sym c.hex_field-2.ensures.is, c.in-Bad-hex_field.is)
+
+pub overflow_cast-result : goal.overflow_cast-result
+overflow_cast-result c =
+    omega (arith, c.hex_field.ensures.below c.in-Value.v c.in-Value.is)
+
+pub overflow_cast-result-in-Value-hex_field-2 : goal.overflow_cast-result-in-Value-hex_field-2
+overflow_cast-result-in-Value-hex_field-2 c =
+    omega (arith, c.hex_field-2.ensures.below c.in-Value-hex_field.v c.in-Value-hex_field.is)
+
+pub returns-in-Value-hex_field-2 : goal.returns-in-Value-hex_field-2
+unfolding asked_of
+returns-in-Value-hex_field-2 c =
+    simp (sym c.hex_field.ensures.is, c.in-Value.is, sym c.hex_field-2.ensures.is, c.in-Value-hex_field.is, sym c.hex_field-3.ensures.is, c.in-Value-hex_field-2.is)
+
+pub returns-in-Bad-hex_field-2 : goal.returns-in-Bad-hex_field-2
+unfolding asked_of
+returns-in-Bad-hex_field-2 c =
+    simp (sym c.hex_field.ensures.is, c.in-Value.is, sym c.hex_field-2.ensures.is, c.in-Value-hex_field.is, sym c.hex_field-3.ensures.is, c.in-Bad-hex_field-2.is)

@@ -1,0 +1,7 @@
+-- `lines::digits::encode` meets its contract.
+use Rattle.lines.proofs.HexLaws.{all-written}
+use Rattle.lines.proofs.digits.encode.Goals as goal
+
+pub returns : goal.returns
+returns c =
+    all-written c.args.s.now c.args.out.now c.put_digits.new.out c.least-n.result c.least-n.ensures c.put_digits.ensures

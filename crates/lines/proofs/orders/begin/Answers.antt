@@ -1,0 +1,37 @@
+-- `lines::orders::begin` meets its contract.
+use mathlib.Core.Path.{sym}
+use Rattle.lines.specs.Orders.{begin_order}
+use native.Mathlib.Omega.{arith}
+use Rattle.lines.proofs.orders.begin.Goals as goal
+
+pub returns-in-Bad : goal.returns-in-Bad
+unfolding begin_order
+returns-in-Bad c =
+    simp (sym c.hex_field.ensures.is, c.in-Bad.is)
+
+pub returns-in-Bad-hex_field : goal.returns-in-Bad-hex_field
+unfolding begin_order
+returns-in-Bad-hex_field c =
+    simp (sym c.hex_field.ensures.is, c.in-Value.is, sym c.hex_field-2.ensures.is, c.in-Bad-hex_field.is)
+
+pub overflow_cast-result : goal.overflow_cast-result
+overflow_cast-result c =
+    omega (arith, c.hex_field.ensures.below c.in-Value.v c.in-Value.is)
+
+pub overflow_cast-result-in-Value-decimal_field : goal.overflow_cast-result-in-Value-decimal_field
+overflow_cast-result-in-Value-decimal_field c =
+    omega (arith, c.hex_field-2.ensures.below c.in-Value-hex_field.v c.in-Value-hex_field.is)
+
+pub overflow_cast-result-in-Value-decimal_field-2 : goal.overflow_cast-result-in-Value-decimal_field-2
+overflow_cast-result-in-Value-decimal_field-2 c =
+    omega (arith, c.decimal_field.ensures.below c.in-Value-decimal_field.v c.in-Value-decimal_field.is)
+
+pub returns-in-Value-decimal_field : goal.returns-in-Value-decimal_field
+unfolding begin_order
+returns-in-Value-decimal_field c =
+    simp (sym c.hex_field.ensures.is, c.in-Value.is, sym c.hex_field-2.ensures.is, c.in-Value-hex_field.is, sym c.decimal_field.ensures.is, c.in-Value-decimal_field.is)
+
+pub returns-in-Bad-decimal_field : goal.returns-in-Bad-decimal_field
+unfolding begin_order
+returns-in-Bad-decimal_field c =
+    simp (sym c.hex_field.ensures.is, c.in-Value.is, sym c.hex_field-2.ensures.is, c.in-Value-hex_field.is, sym c.decimal_field.ensures.is, c.in-Bad-decimal_field.is)

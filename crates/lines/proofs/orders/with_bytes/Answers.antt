@@ -1,0 +1,14 @@
+-- `lines::orders::with_bytes` meets its contract.
+use mathlib.Core.Path.{sym}
+use Rattle.lines.specs.Orders.{bytes_order}
+use Rattle.lines.proofs.orders.with_bytes.Goals as goal
+
+pub returns-in-Value : goal.returns-in-Value
+unfolding bytes_order
+returns-in-Value c =
+    simp (sym c.bytes_field.ensures, c.in-Value.is)
+
+pub returns-in-Bad : goal.returns-in-Bad
+unfolding bytes_order
+returns-in-Bad c =
+    simp (sym c.bytes_field.ensures, c.in-Bad.is)

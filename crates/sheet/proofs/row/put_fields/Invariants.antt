@@ -1,0 +1,13 @@
+-- `sheet::row::put_fields` meets its contract. The loop's invariant: what is left to write, over what is there, is the whole.
+use mathlib.Core.Path.{◌≡◌}
+use Prim.Native.Nat.{◌+◌, ◌-◌, ◌≤◌}
+use lib.ListN.{length, drop}
+use Rattle.octets.specs.Bytes.{splice}
+use Rattle.sheet.specs.Row.{fields}
+use Rattle.sheet.proofs.row.put_fields.Given as goal
+
+abbrev pub invariant-loop-i : goal.invariant-loop-i
+invariant-loop-i l = (l.i ≤ length l.numbers) × (length l.out ≡ length l.initial.out) × (splice l.initial.out l.at (fields l.numbers) ≡ splice l.out l.end (fields (drop l.i l.numbers))) × (l.end + length (fields (drop l.i l.numbers)) ≡ l.at + length (fields l.numbers))
+
+abbrev pub decreases-loop-i : goal.decreases-loop-i
+decreases-loop-i l = length l.numbers - l.i
