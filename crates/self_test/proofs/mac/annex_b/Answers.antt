@@ -1,5 +1,4 @@
 -- `self_test::mac::annex_b` meets its contract.
--- Assumes nothing.
 use mathlib.Core.Path.{◌≡◌, refl, sym, ◌∙◌}
 use mathlib.Core.List.{[], ◌∷◌}
 use lib.Dec.{lit<}
@@ -13,13 +12,7 @@ use Rattle.authentication.proofs.Examples.{key, string, annex_b}
 use Rattle.self_test.specs.Plain.{Blocks}
 use Rattle.self_test.proofs.WordLaws.{key-words}
 use native.Mathlib.Omega.{arith}
-use borrow.Author.Rules.{rules}
-use borrow.Author.Rules.{rules}
-use Rattle.self_test.proofs.mac.annex_b.Statement.{statement}
-use Rattle.self_test.proofs.mac.annex_b.Tie as tie
-
-fast-cbc-mac-requires : tie.Need-fast-cbc-mac-requires
-fast-cbc-mac-requires c κs = search rules
+use Rattle.self_test.proofs.mac.annex_b.Goals as goal
 
 string-long : length (padded string) ≡ 24
 unfolding padded
@@ -33,11 +26,8 @@ word_bytes : bytes 8 0x361d431ed396c175 ≡ 0x36 ∷ 0x1d ∷ 0x43 ∷ 0x1e ∷ 
 unfolding bytes
 word_bytes = refl
 
-returns : tie.Need-returns
+pub returns : goal.returns
 returns c =
-    let r = c.fast-cbc-mac.result in
+    let r = c.fast_cbc_mac.result in
     eq-eqb r 0x361d431ed396c175
-    (bytes_one 8 r 0x361d431ed396c175 (omega arith) (lit< tt) (c.fast-cbc-mac.ensures.by key (padded string) string-long key-words string-words ∙ annex_b ∙ sym word_bytes))
-
-pub annex-b-spec : {M : Type 1} → statement M
-annex-b-spec = tie.close (tie.spec fast-cbc-mac-requires returns)
+    (bytes_one 8 r 0x361d431ed396c175 (omega arith) (lit< tt) (c.fast_cbc_mac.ensures.by key (padded string) string-long key-words string-words ∙ annex_b ∙ sym word_bytes))
