@@ -1,35 +1,37 @@
 // Lines of text, and the bytes that both programs make up.
-use libc::STDOUT_FILENO;
 use refusal::Refusal;
 
+// The descriptor of standard output.
+const STANDARD_OUTPUT: i32 = 1;
+
 pub fn line(text: &[u8]) {
-    io::write_all(STDOUT_FILENO, text);
+    io::write_all(STANDARD_OUTPUT, text);
     end();
 }
 
 pub fn end() {
-    io::write_all(STDOUT_FILENO, b"\n");
+    io::write_all(STANDARD_OUTPUT, b"\n");
 }
 
 pub fn space() {
-    io::write_all(STDOUT_FILENO, b" ");
+    io::write_all(STANDARD_OUTPUT, b" ");
 }
 
 pub fn word(x: u64) {
-    io::print_hex(STDOUT_FILENO, x, 16);
+    io::print_hex(STANDARD_OUTPUT, x, 16);
 }
 
 pub fn byte(x: u8) {
-    io::print_hex(STDOUT_FILENO, x as u64, 2);
+    io::print_hex(STANDARD_OUTPUT, x as u64, 2);
 }
 
 pub fn number(n: usize) {
-    io::print_decimal(STDOUT_FILENO, n as u64);
+    io::print_decimal(STANDARD_OUTPUT, n as u64);
 }
 
 pub fn refused(h: Refusal) {
-    io::write_all(STDOUT_FILENO, b"H");
-    io::print_decimal(STDOUT_FILENO, refusal::house_number(h) as u64);
+    io::write_all(STANDARD_OUTPUT, b"H");
+    io::print_decimal(STANDARD_OUTPUT, refusal::house_number(h) as u64);
 }
 
 // n bytes, byte i being (seed + 37 i) mod 256.
@@ -38,7 +40,7 @@ pub fn pattern(d: &mut [u8], seed: u8) {
     let mut i: usize = 0;
     while i < d.len() {
         d[i] = x;
-        x = std::num::wrapping_add_u8(x, 37);
+        x = x.wrapping_add(37);
         i += 1;
     }
 }

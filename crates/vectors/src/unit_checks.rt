@@ -97,7 +97,7 @@ pub fn checks() {
     check(&u, false);
     let k = key();
     let mut elsewhere = destination();
-    elsewhere[2] = std::num::wrapping_add_u8(elsewhere[2], 1);
+    elsewhere[2] = elsewhere[2].wrapping_add(1);
     check_with(&u, &k, elsewhere, true);
     let mut other = [0u8; 24];
     pattern(&mut other, 2);

@@ -37,9 +37,9 @@ fn bytes(s: &[u8]) {
 
 fn derived_key(kmac: &[u8], n: u8) {
     let mut ra = [0u8; 8];
-    pattern(&mut ra, std::num::wrapping_add_u8(100, n));
+    pattern(&mut ra, 100u8.wrapping_add(n));
     let mut rb = [0u8; 8];
-    pattern(&mut rb, std::num::wrapping_add_u8(200, n));
+    pattern(&mut rb, 200u8.wrapping_add(n));
     let keys = authentication::session_keys(kmac, ra, rb);
     let answer = keys.answer;
     match answer {
