@@ -6,7 +6,6 @@ use Rattle.des.specs.Bits.{bits_of_bytes, bytes_of_bits}
 use Rattle.des.specs.Des.{decipher_bits, des_decipher}
 use Rattle.des.specs.Words.{Keys}
 use Rattle.des.proofs.KeyLaws.{deciphers}
-use borrow.Author.Rules.{rules}
 use Rattle.des.proofs.decipher.Goals as goal
 
 pub returns : goal.returns

@@ -1,5 +1,4 @@
 -- `des::decipher_word` meets its contract.
-use borrow.Author.Rules.{rules}
 use Rattle.des.proofs.decipher_word.Goals as goal
 
 pub returns : goal.returns

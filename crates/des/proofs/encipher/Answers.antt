@@ -6,7 +6,6 @@ use Rattle.des.specs.Bits.{bits_of_bytes, bytes_of_bits}
 use Rattle.des.specs.Des.{encipher_bits, des_encipher}
 use Rattle.des.specs.Words.{Keys}
 use Rattle.des.proofs.KeyLaws.{enciphers}
-use borrow.Author.Rules.{rules}
 use Rattle.des.proofs.encipher.Goals as goal
 
 pub returns : goal.returns

@@ -1,5 +1,4 @@
 -- `des::encipher_word` meets its contract.
-use borrow.Author.Rules.{rules}
 use Rattle.des.proofs.encipher_word.Goals as goal
 
 pub returns : goal.returns

@@ -12,5 +12,5 @@ use Rattle.des.proofs.load.Goals as goal
 pub returns : goal.returns
 returns c =
     let b = c.args.b in
-    let eight : length b ≡ 8 = c.well-formed.0.1.0.1 in
+    let eight : length b ≡ 8 = search rules in
     ap (bits 64) c.get64_at.ensures ∙ bits-number 8 b 0 (omega arith) ∙ ap bits_of_bytes (part-whole b 8 eight)

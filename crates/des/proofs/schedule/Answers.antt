@@ -1,16 +1,13 @@
 use mathlib.Core.Path.{◌≡◌, refl, sym, ap, ◌∙◌}
-use mathlib.Core.List.{List}
-use Prim.Native.Nat.{ℕ, suc, ◌≤◌, ◌<◌, ◌-◌}
+use Prim.Native.Nat.{suc, ◌<◌}
 use native.Mathlib.Omega.{arith}
 use native.Mathlib.Numerals.{add-one}
-use lib.ListN.{length, get_or, length-set}
+use lib.ListN.{length, length-set}
 use borrow.Author.Count.{below_none}
-use borrow.Author.Rules.{rules}
 use Rattle.des.specs.Bits.{bits}
 use Rattle.des.specs.Tables.{pc2, shifts}
 use Rattle.des.specs.Des.{permute, shifted, subkey}
 use Rattle.des.proofs.KeyLaws.{keys_step, shifted_step, shifts_fit}
-use Rattle.des.proofs.schedule.Invariants.{Kept}
 use Rattle.des.proofs.schedule.Goals as goal
 
 pub pc2_table-table-requires : goal.pc2_table-table-requires

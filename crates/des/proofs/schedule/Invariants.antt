@@ -1,16 +1,10 @@
 -- `des::schedule` meets its contract. The loop's invariant: cd holds C and D after n iterations, and the keys of the first n iterations are made.
-use mathlib.Core.Path.{◌≡◌, refl, sym, ap, ◌∙◌}
+use mathlib.Core.Path.{◌≡◌}
 use mathlib.Core.List.{List}
-use Prim.Native.Nat.{ℕ, suc, ◌≤◌, ◌<◌, ◌-◌}
-use native.Mathlib.Omega.{arith}
-use native.Mathlib.Numerals.{add-one}
-use lib.ListN.{length, get_or, length-set}
-use borrow.Author.Count.{below_none}
-use borrow.Author.Rules.{rules}
+use Prim.Native.Nat.{ℕ, ◌≤◌, ◌<◌, ◌-◌}
+use lib.ListN.{length, get_or}
 use Rattle.des.specs.Bits.{bits}
-use Rattle.des.specs.Tables.{pc2, shifts}
-use Rattle.des.specs.Des.{permute, shifted, subkey}
-use Rattle.des.proofs.KeyLaws.{keys_step, shifted_step, shifts_fit}
+use Rattle.des.specs.Des.{shifted, subkey}
 use Rattle.des.proofs.schedule.Given as goal
 
 -- what the loop keeps

@@ -4,7 +4,6 @@ use Rattle.octets.specs.Bytes.{bytes}
 use Rattle.octets.proofs.SpliceLaws.{splice_all}
 use Rattle.octets.proofs.NumberLaws.{length-bytes}
 use Rattle.des.proofs.ByteLaws.{bytes_bits}
-use borrow.Author.Rules.{rules}
 use Rattle.des.proofs.store.Goals as goal
 
 pub returns : goal.returns

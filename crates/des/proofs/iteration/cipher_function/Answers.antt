@@ -2,7 +2,6 @@
 use mathlib.Core.Path.{ap, ◌∙◌}
 use mathlib.Core.List.{List}
 use Prim.Native.Nat.{ℕ}
-use borrow.Author.Rules.{rules}
 use Rattle.des.specs.Bits.{bits, xor_bits}
 use Rattle.des.specs.Tables.{p}
 use Rattle.des.specs.Des.{permute, selects, cipher_function}

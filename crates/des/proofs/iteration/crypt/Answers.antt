@@ -3,7 +3,6 @@ use mathlib.Core.Path.{ap, ◌∙◌}
 use Rattle.des.specs.Tables.{ip_inverse}
 use Rattle.des.specs.Des.{permute, swap, rounds, cipher}
 use Rattle.des.specs.Words.{keys_of}
-use borrow.Author.Rules.{rules}
 use Rattle.des.proofs.iteration.crypt.Goals as goal
 
 pub returns : goal.returns

@@ -1,5 +1,4 @@
 -- `des::iteration::iterate` meets its contract.
-use borrow.Author.Rules.{rules}
 use Rattle.des.proofs.iteration.iterate.Goals as goal
 
 pub iterations-requires : goal.iterations-requires

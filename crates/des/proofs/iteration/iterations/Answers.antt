@@ -1,6 +1,6 @@
 use mathlib.Core.Path.{◌≡◌, refl, sym, ap, ap₂, ◌∙◌}
 use mathlib.Core.List.{List}
-use Prim.Native.Nat.{ℕ, ◌+◌, ◌≤◌, ◌<◌, ◌-◌}
+use Prim.Native.Nat.{ℕ, ◌+◌}
 use native.Mathlib.Omega.{arith}
 use native.Mathlib.Numerals.{add-one}
 use lib.ListN.{get_or}
@@ -14,12 +14,6 @@ next : (ks : ℕ → List ℕ) (n : ℕ) (l s t k : List ℕ) → s ≡ Des.roun
 unfolding Des.rounds
 next ks n l s t k hs ht hk = ht ∙ ap₂ Des.round hk hs ∙ ap (λ (m : ℕ). Des.rounds ks m l) (sym (add-one n))
 
-at-below : (c : tie.After-turn invariant-loop decreases-loop) → c.turn.result < 16
-at-below c =
-    let loop = c.before.before in
-    let start = loop.before.before.before.before in
-    turned-below start.args.back loop.loop.n c.turn.result c.before.loop-test.true c.turn.ensures
-
 pub loop-n-init : goal.loop-n-init
 unfolding Des.rounds
 loop-n-init c = (omega arith, refl)
@@ -28,10 +22,10 @@ pub turn-at-requires : goal.turn-at-requires
 turn-at-requires c = c.loop-n-test.true
 
 pub offset_bounds-keys-at : goal.offset_bounds-keys-at
-offset_bounds-keys-at c = omega (arith, at-below c)
+offset_bounds-keys-at c = omega (arith, turned-below c.args.back c.loop-n.n c.turn-at.result c.loop-n-test.true c.turn-at.ensures)
 
 pub bounds-keys-at : goal.bounds-keys-at
-bounds-keys-at c = at-below c
+bounds-keys-at c = turned-below c.args.back c.loop-n.n c.turn-at.result c.loop-n-test.true c.turn-at.ensures
 
 pub round-s-requires : goal.round-s-requires
 round-s-requires c =
@@ -40,7 +34,7 @@ round-s-requires c =
 pub loop-n-preserved : goal.loop-n-preserved
 loop-n-preserved c =
     let a = c.args in
-    let keys = a.t2 in (
+    let keys = a.keys in (
       omega arith,
       next (keys_of keys a.back) c.loop-n.n (bits 64 a.lr) (bits 64 c.loop-n.s) (bits 64 c.round-s.result)
           (bits 48 (get_or keys c.turn-at.result 0)) c.loop-n.invariant.1 c.round-s.ensures (ap (λ (m : ℕ). bits 48 (get_or keys m 0)) c.turn-at.ensures),
@@ -50,4 +44,4 @@ pub returns : goal.returns
 returns c =
     let a = c.args in
     let e : c.loop-n.n ≡ 16 = omega arith in
-    c.loop-n.invariant.1 ∙ ap (λ (m : ℕ). Des.rounds (keys_of a.t2 a.back) m (bits 64 a.lr)) e
+    c.loop-n.invariant.1 ∙ ap (λ (m : ℕ). Des.rounds (keys_of a.keys a.back) m (bits 64 a.lr)) e

@@ -1,14 +1,9 @@
 -- `des::iteration::iterations` meets its contract. The loop's invariant: s holds the block after n iterations.
-use mathlib.Core.Path.{◌≡◌, refl, sym, ap, ap₂, ◌∙◌}
-use mathlib.Core.List.{List}
-use Prim.Native.Nat.{ℕ, ◌+◌, ◌≤◌, ◌<◌, ◌-◌}
-use native.Mathlib.Omega.{arith}
-use native.Mathlib.Numerals.{add-one}
-use lib.ListN.{get_or}
+use mathlib.Core.Path.{◌≡◌}
+use Prim.Native.Nat.{◌≤◌, ◌-◌}
 use Rattle.des.specs.Bits.{bits}
 use Rattle.des.specs.Des as Des
 use Rattle.des.specs.Words.{keys_of}
-use Rattle.des.proofs.KeyLaws.{turned-below}
 use Rattle.des.proofs.iteration.iterations.Given as goal
 
 abbrev pub invariant-loop-n : goal.invariant-loop-n

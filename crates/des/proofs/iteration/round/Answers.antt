@@ -1,5 +1,4 @@
 -- `des::iteration::round` meets its contract.
-use borrow.Author.Rules.{rules}
 use Rattle.des.proofs.TableLaws.{rounded}
 use Rattle.des.proofs.iteration.round.Goals as goal
 

@@ -1,7 +1,6 @@
 -- `des::permutation::choice1` meets its contract: the constant is the printed table.
 use mathlib.Core.Path.{refl}
 use lib.Dec.{lit≤}
-use borrow.Author.Rules.{rules}
 use Rattle.des.specs.Tables.{pc1}
 use Rattle.des.proofs.permutation.choice1.Goals as goal
 

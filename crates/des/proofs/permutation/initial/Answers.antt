@@ -1,7 +1,6 @@
 -- `des::permutation::initial` meets its contract: the constant is the printed table.
 use mathlib.Core.Path.{refl}
 use lib.Dec.{lit≤}
-use borrow.Author.Rules.{rules}
 use Rattle.des.specs.Tables.{ip}
 use Rattle.des.proofs.permutation.initial.Goals as goal
 

@@ -1,7 +1,6 @@
 -- `des::permutation::inverse_initial` meets its contract: the constant is the printed table.
 use mathlib.Core.Path.{refl}
 use lib.Dec.{lit≤}
-use borrow.Author.Rules.{rules}
 use Rattle.des.specs.Tables.{ip_inverse}
 use Rattle.des.proofs.permutation.inverse_initial.Goals as goal
 

@@ -1,16 +1,9 @@
 -- `des::permutation::permute` meets its contract. The loop's invariant: the result holds the bits that the first i rows name.
-use mathlib.Core.Path.{◌≡◌, ap, ◌∙◌, subst}
-use mathlib.Core.List.{List}
-use Prim.Native.Nat.{ℕ, ◌+◌, ◌*◌, ◌≤◌, ◌<◌, ◌-◌}
-use native.Mathlib.Nat.{mul_comm}
-use native.Mathlib.Omega.{arith}
+use Prim.Native.Nat.{◌*◌, ◌≤◌, ◌-◌}
 use Rattle.octets.specs.Bytes.{part}
-use Rattle.octets.proofs.PartLaws.{part-whole}
 use Rattle.des.specs.Bits.{bits}
 use Rattle.des.specs.Des as Des
 use Rattle.des.specs.Words.{Holds}
-use Rattle.des.proofs.TableLaws.{eight-rows, no_rows, rows_step, rows_fit}
-use Rattle.des.proofs.WordLaws.{recast, resize}
 use Rattle.des.proofs.permutation.permute.Given as goal
 
 abbrev pub invariant-loop-i : goal.invariant-loop-i

@@ -1,19 +1,13 @@
 use mathlib.Core.Path.{◌≡◌, refl, subst}
-use Prim.Native.Nat.{ℕ, ◌+◌, ◌≤◌, ◌-◌}
+use Prim.Native.Nat.{ℕ, ◌+◌}
 use native.Mathlib.Omega.{arith}
 use lib.Dec.{lit<}
-use lib.ListN.{get_or}
 use Rattle.octets.specs.Bytes.{part}
 use Rattle.des.specs.Bits.{bits}
 use Rattle.des.specs.Des as Des
 use Rattle.des.specs.Words.{Holds}
 use Rattle.des.proofs.TableLaws.{row_step, names_at}
 use Rattle.des.proofs.permutation.permute_row.Goals as goal
-
--- the entry names a bit of the word
-named : (c : tie.After-shared-slice-known invariant-loop decreases-loop) → let l = c.before.before in let k = get_or l.before.args.table.now (l.before.args.from + l.loop.i) 0 in
-    (1 ≤ k) × (k ≤ l.before.args.width)
-named c = let l = c.before.before in names_at l.before.requires.0 (l.before.args.from + l.loop.i) (omega arith)
 
 pub loop-i-init : goal.loop-i-init
 unfolding bits Des.permute part
@@ -22,11 +16,12 @@ loop-i-init c = (omega arith, record { fits = lit< tt; same = refl })
 pub overflow_cast-bit : goal.overflow_cast-bit
 overflow_cast-bit c = omega (arith, c.type_inv.table (c.args.from + c.loop-i.i))
 
+-- the entry names a bit of the word
 pub overflow_sub-r : goal.overflow_sub-r
-overflow_sub-r c = (named c).1
+overflow_sub-r c = (names_at c.requires.0 (c.args.from + c.loop-i.i) (omega arith)).1
 
 pub overflow_shr-r : goal.overflow_shr-r
-overflow_shr-r c = omega (arith, c.requires.0.wide, named c)
+overflow_shr-r c = omega (arith, c.requires.0.wide, names_at c.requires.0 (c.args.from + c.loop-i.i) (omega arith))
 
 pub loop-i-preserved : goal.loop-i-preserved
 loop-i-preserved c =

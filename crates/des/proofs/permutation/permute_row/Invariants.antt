@@ -1,14 +1,9 @@
 -- `des::permutation::permute_row` meets its contract. The loop's invariant: the result holds the bits that the first i entries name.
-use mathlib.Core.Path.{◌≡◌, refl, subst}
-use Prim.Native.Nat.{ℕ, ◌+◌, ◌≤◌, ◌-◌}
-use native.Mathlib.Omega.{arith}
-use lib.Dec.{lit<}
-use lib.ListN.{get_or}
+use Prim.Native.Nat.{◌≤◌, ◌-◌}
 use Rattle.octets.specs.Bytes.{part}
 use Rattle.des.specs.Bits.{bits}
 use Rattle.des.specs.Des as Des
 use Rattle.des.specs.Words.{Holds}
-use Rattle.des.proofs.TableLaws.{row_step, names_at}
 use Rattle.des.proofs.permutation.permute_row.Given as goal
 
 abbrev pub invariant-loop-i : goal.invariant-loop-i

@@ -1,7 +1,6 @@
 -- `des::selection::select` meets its contract: the row and the column are the numbers that the bits represent, and each entry of the table is below 16.
 use mathlib.Core.Path.{◌≡◌, ◌∙◌, ap, subst⁻¹}
 use Prim.Native.Nat.{ℕ}
-use borrow.Author.Rules.{rules}
 use native.Mathlib.Omega.{arith}
 use lib.ListN.{length}
 use Rattle.des.specs.Bits.{bits}

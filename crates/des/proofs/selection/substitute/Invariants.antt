@@ -1,13 +1,8 @@
 -- `des::selection::substitute` meets its contract. The loop's invariant: the result holds what the first k S-boxes select.
-use mathlib.Core.Path.{◌≡◌, refl, subst}
-use Prim.Native.Nat.{ℕ, ◌≤◌, ◌*◌, ◌-◌, ◌/◌, ◌^◌}
-use native.Mathlib.Omega.{arith}
-use lib.Bits.{mask_lt}
-use lib.Dec.{lit<}
+use Prim.Native.Nat.{◌≤◌, ◌*◌, ◌-◌}
 use Rattle.des.specs.Bits.{bits}
 use Rattle.des.specs.Des.{selects}
 use Rattle.des.specs.Words.{Holds}
-use Rattle.des.proofs.TableLaws.{selects-step}
 use Rattle.des.proofs.selection.substitute.Given as goal
 
 abbrev pub invariant-loop-k : goal.invariant-loop-k

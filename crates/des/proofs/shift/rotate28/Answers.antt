@@ -1,5 +1,4 @@
 -- `des::shift::rotate28` meets its contract, by the law at 28 bits.
-use borrow.Author.Rules.{rules}
 use native.Mathlib.Omega.{arith}
 use Rattle.des.proofs.TableLaws.{rotated}
 use Rattle.des.proofs.shift.rotate28.Goals as goal

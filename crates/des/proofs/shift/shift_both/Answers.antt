@@ -1,5 +1,4 @@
 -- `des::shift::shift_both` meets its contract.
-use borrow.Author.Rules.{rules}
 use Rattle.des.proofs.TableLaws.{shifted-both}
 use Rattle.des.proofs.shift.shift_both.Goals as goal
 

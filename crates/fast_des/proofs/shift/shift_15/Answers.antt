@@ -1,0 +1,18 @@
+-- `fast_des::shift::shift_15` meets its contract.
+use mathlib.Core.Path.{◌≡◌, refl}
+use mathlib.Core.Bool.{true}
+use native.Mathlib.Omega.{arith}
+use Rattle.octets.specs.Bytes.{same, all_below}
+use Rattle.des.specs.Bits.{bits}
+use Rattle.des.specs.Des.{permute, swap, shift_both}
+use Rattle.des.specs.Words.{up_from}
+use Rattle.fast_des.specs.Networks.{shift_parts}
+use Rattle.fast_des.proofs.LinearLaws.{permutes_powers, shift_word}
+use Rattle.fast_des.proofs.shift.shift_15.Goals as goal
+
+test : permutes_powers 56 56 (shift_both 15 (up_from 1 56)) (shift_parts 15 0xfff8000fff8000 0x7fff0007fff) ≡ true
+unfolding permutes_powers all_below same bits permute swap shift_both shift_parts
+test = refl
+
+pub returns : goal.returns
+returns c = shift_word 15 0xfff8000fff8000 0x7fff0007fff test c.args.cd (omega arith) c.shift_parts.ensures

@@ -1,0 +1,11 @@
+-- `self_test::words::fast_encipher` meets its contract.
+use Rattle.des.specs.Bits.{bits}
+use Rattle.des.specs.Des.{encipher_bits}
+use Rattle.self_test.proofs.words.fast_encipher.Goals as goal
+
+pub returns : goal.returns
+returns c =
+    let a = c.args in
+    let key = bits 64 a.key in
+    let x = bits 64 a.x in
+    c.leave.ensures.by (encipher_bits key x) (c.encipher_halves.ensures.by key x c.schedule_by-keys.ensures c.enter.ensures)
