@@ -1,0 +1,23 @@
+-- `kmac::kmac_check` meets its contract.
+use mathlib.Core.Path.{sym, ap, ◌∙◌}
+use Rattle.octets.specs.Bytes.{nonzero}
+use Rattle.refusal.proofs.CodeLaws.{told-given, told-refused}
+use Rattle.authentication.specs.Unit.{checked_as}
+use Rattle.kmac.proofs.CodeLaws.{data_small}
+use Rattle.kmac.proofs.kmac_check.Goals as goal
+
+pub overflow_cast-result : goal.overflow_cast-result
+overflow_cast-result c =
+    record {
+      sfits = (let a = c.args in
+          data_small a.unit.now a.key.now a.destination.now (nonzero a.direction) c.in-Accepted.n (sym c.check.ensures ∙ ap checked_as c.in-Accepted.is));
+    }
+
+pub returns-in-Accepted : goal.returns-in-Accepted
+returns-in-Accepted c =
+    told-given c.in-Accepted.n ((let a = c.args in
+    data_small a.unit.now a.key.now a.destination.now (nonzero a.direction) c.in-Accepted.n (sym c.check.ensures ∙ ap checked_as c.in-Accepted.is))) (sym (ap checked_as c.in-Accepted.is) ∙ c.check.ensures)
+
+pub returns-in-Refused : goal.returns-in-Refused
+returns-in-Refused c =
+    told-refused c.in-Refused.h c.refusal_code.result c.refusal_code.ensures (sym (ap checked_as c.in-Refused.is) ∙ c.check.ensures)
