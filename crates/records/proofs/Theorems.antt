@@ -1,6 +1,6 @@
 -- The records that are shown have no byte of a KMAC.
 -- Assumes nothing.
-use mathlib.Core.Bool.{Bool, true, false, ◌||◌}
+use mathlib.Core.Bool.{Bool, true, false}
 use mathlib.Core.List.{List}
 use mathlib.Core.Path.{◌≡◌, refl, ap, ◌∙◌}
 use Prim.Native.Nat.{ℕ, zero, suc, ◌+◌, ◌*◌, ◌≤◌, ◌<◌}
@@ -16,9 +16,9 @@ use Rattle.store.specs.declared.Edition.TheVariants.{Known, Unknown}
 use Rattle.store.specs.Layout.{record_at, edition_of}
 use Rattle.store.specs.Store.{key_count, sound}
 use Rattle.store.proofs.SoundLaws.{sound-says}
-use Rattle.runs.specs.Alike.{in_key, in_record_key, in_store_key, DifferAt, sound_in}
-use Rattle.runs.proofs.RangeLaws.{SameIn, get16-same, get32-same, before-key, past-key}
-use Rattle.records.specs.Claims.{ShownAlike, ShowsNoKey}
+use Rattle.runs.specs.Alike.{in_key, in_record_key, in_store_key, sound_in}
+use Rattle.runs.proofs.RangeLaws.{get16-same, get32-same, before-key, past-key}
+use Rattle.records.specs.Claims.{ShowsNoKey}
 
 -- ---- where no KMAC field stands
 

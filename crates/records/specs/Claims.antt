@@ -1,6 +1,6 @@
 -- What is claimed of the records that are shown: they are the same, whatever the KMACs are.
 -- Assumes nothing.
-use Rattle.std.specs.Prelude.{true, List, ◌≡◌, ℕ, ◌<◌}
+use Rattle.std.specs.Prelude.{true, List, ◌≡◌, ℕ}
 use Rattle.store.specs.Store.{key_count, peer_count}
 use Rattle.runs.specs.Alike.{in_store_key, DifferAt, is_sound}
 use Rattle.records.specs.Records.{record_of, peer_of}

@@ -21,6 +21,7 @@ returns-then-not-between c =
     let a = c.args in
     build_data_wrong a.key.now a.destination a.direction a.user.now a.out.now c.if-key-ne-KEY.false c.if-out-lt-UNIT_MOST.false (sym c.between.ensures ∙ c.if-not-between.true)
 
+-- the length of the user data is right
 pub put_unit-requires : goal.put_unit-requires
 put_unit-requires c =
     let a = c.args in

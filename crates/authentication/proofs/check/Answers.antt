@@ -15,6 +15,7 @@ returns-then-not-between c =
     let a = c.args in
     length_wrong a.unit.now a.key.now a.destination a.direction c.if-key-ne-KEY.false (sym c.between.ensures ∙ c.if-not-between.true)
 
+-- the length of the unit is right
 pub mac_right-requires : goal.mac_right-requires
 mac_right-requires c =
     let a = c.args in

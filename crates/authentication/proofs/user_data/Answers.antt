@@ -8,6 +8,7 @@ returns-in_default c =
     let a = c.args in
     data_refused a.unit.now a.key.now a.destination a.direction c.check.result c.check.ensures c.in_default.field-0 c.in_default.is
 
+-- the user data lie in the unit
 pub overflow_add-end : goal.overflow_add-end
 overflow_add-end c =
     let a = c.args in

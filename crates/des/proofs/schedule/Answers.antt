@@ -10,18 +10,9 @@ use Rattle.des.specs.Des.{permute, shifted, subkey}
 use Rattle.des.proofs.KeyLaws.{keys_step, shifted_step, shifts_fit}
 use Rattle.des.proofs.schedule.Goals as goal
 
-pub pc2_table-table-requires : goal.pc2_table-table-requires
-pc2_table-table-requires c = tt
-
-pub choice1-cd-requires : goal.choice1-cd-requires
-choice1-cd-requires c = tt
-
 pub loop-n-init : goal.loop-n-init
 unfolding shifted
 loop-n-init c = record { most = omega arith; sixteen = refl; halves = c.choice1-cd.ensures.same; made = below_none _ }
-
-pub wide64-requires : goal.wide64-requires
-wide64-requires c = tt
 
 pub shift_both-cd-requires : goal.shift_both-cd-requires
 unfolding shifts

@@ -9,26 +9,14 @@ use Rattle.fast_des.proofs.LinearLaws.{along}
 use Rattle.fast_des.proofs.ChoiceLaws.{shifts_before, key-along}
 use Rattle.fast_des.proofs.schedule_by.Goals as goal
 
-pub choice1-cd-requires : goal.choice1-cd-requires
-choice1-cd-requires c = tt
-
-pub shift_15-cd_15-requires : goal.shift_15-cd_15-requires
-shift_15-cd_15-requires c = tt
-
 pub choices-from_0-requires : goal.choices-from_0-requires
 choices-from_0-requires c = c.requires
-
-pub shift_2-requires : goal.shift_2-requires
-shift_2-requires c = tt
 
 pub choices-from_2-requires : goal.choices-from_2-requires
 choices-from_2-requires c = c.requires
 
 pub choices-from_15-requires : goal.choices-from_15-requires
 choices-from_15-requires c = c.requires
-
-pub shift_2-requires-2 : goal.shift_2-requires-2
-shift_2-requires-2 c = tt
 
 pub choices-from_17-requires : goal.choices-from_17-requires
 choices-from_17-requires c = c.requires

@@ -11,9 +11,6 @@ use Rattle.authentication.proofs.keys.set_parity.Goals as goal
 pub loop-i-init : goal.loop-i-init
 loop-i-init c = (omega arith, (refl, refl))
 
-pub odd-requires : goal.odd-requires
-odd-requires c = tt
-
 pub loop-i-preserved : goal.loop-i-preserved
 loop-i-preserved c =
     let d = c.args.d in

@@ -15,9 +15,6 @@ loop-i-init c = (omega arith, (omega arith, refl))
 pub overflow_mul-r : goal.overflow_mul-r
 overflow_mul-r c = omega (arith, word_room c.loop-i.i c.loop-i.r c.loop-i-test.true c.loop-i.invariant.1.0)
 
-pub string_byte-requires : goal.string_byte-requires
-string_byte-requires c = tt
-
 pub overflow_add-r : goal.overflow_add-r
 overflow_add-r c =
     omega (arith, word_room c.loop-i.i c.loop-i.r c.loop-i-test.true c.loop-i.invariant.1.0)

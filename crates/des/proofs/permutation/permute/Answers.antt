@@ -47,6 +47,7 @@ loop-i-preserved c =
 pub returns : goal.returns
 returns c =
     let a = c.args in
-    let all : a.n * c.loop-i.i ≡ 8 * a.n = ap (λ (k : ℕ). a.n * k) (let e : c.loop-i.i ≡ 8 = omega (arith, eight-rows c.requires) in e) ∙ mul_comm a.n 8 in
+    let ends : c.loop-i.i ≡ 8 = omega (arith, eight-rows c.requires) in
+    let all : a.n * c.loop-i.i ≡ 8 * a.n = ap (λ (k : ℕ). a.n * k) ends ∙ mul_comm a.n 8 in
     recast (resize all c.loop-i.invariant.1)
     (ap (λ (t : List ℕ). Des.permute t (bits a.width a.x)) (ap (part a.table.now 0) all ∙ part-whole a.table.now (8 * a.n) c.requires.eight))

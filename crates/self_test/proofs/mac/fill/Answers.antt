@@ -11,6 +11,3 @@ loop-i-smaller c = simp length-set (omega arith)
 
 pub loop-i-preserved : goal.loop-i-preserved
 loop-i-preserved c = simp length-set c.loop-i.invariant
-
-pub returns : goal.returns
-returns c = tt
