@@ -1,13 +1,12 @@
-//! A second depot report: reads T and file names as the proved one does, and writes what it must write.
+//! A second depot report: reads T and file names as the proved one does, and writes what it must write. A name that is not UTF-8 can't be opened
+//! (docs/DECISIONS.md).
 
 use reference::report::{contents, report};
-use std::ffi::OsStr;
 use std::fs::File;
 use std::io::{stdin, stdout};
-use std::os::unix::ffi::OsStrExt;
 
 fn main() -> std::io::Result<()> {
     report(stdin().lock(), stdout().lock(), |name| {
-        contents(File::open(OsStr::from_bytes(name)).ok()?)
+        contents(File::open(std::str::from_utf8(name).ok()?).ok()?)
     })
 }

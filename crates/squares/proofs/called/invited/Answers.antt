@@ -4,20 +4,18 @@ use Rattle.units.specs.Units.{au1_fault}
 use Rattle.table.proofs.SideLaws.{typed-fine, indication_faulty}
 use Rattle.squares.proofs.called.invited.Goals as goal
 
+-- neither the application type nor the AU1 is wrong
 pub joined-requires : goal.joined-requires
-joined-requires c = (
-  c.requires.0,
-  (
-    c.requires.1,
-    ((let a = c.args in
-        typed-fine a.acceptable (au1_fault a.unit.now) (sym c.typed_fault.ensures ∙ c.in-Fine.is))).1,
-  ),
-)
+joined-requires c =
+    let a = c.args in
+    let fine = typed-fine a.acceptable (au1_fault a.unit.now) (sym c.typed_fault.ensures ∙ c.in-Fine.is) in
+    (c.requires.0, (c.requires.1, fine.1))
 
 pub returns-in-Fine : goal.returns-in-Fine
 returns-in-Fine c =
-    rw ((let a = c.args in
-    typed-fine a.acceptable (au1_fault a.unit.now) (sym c.typed_fault.ensures ∙ c.in-Fine.is))).0 c.joined.ensures
+    let a = c.args in
+    let fine = typed-fine a.acceptable (au1_fault a.unit.now) (sym c.typed_fault.ensures ∙ c.in-Fine.is) in
+    rw fine.0 c.joined.ensures
 
 pub returns-in-Bad : goal.returns-in-Bad
 returns-in-Bad c =

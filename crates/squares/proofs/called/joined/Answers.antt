@@ -14,6 +14,7 @@ pub random_of-rb-requires : goal.random_of-rb-requires
 random_of-rb-requires c =
     omega (arith, au1-long c.args.unit.now c.requires.1.1)
 
+-- what the search found
 pub kmac-requires : goal.kmac-requires
 kmac-requires c =
     let a = c.args in

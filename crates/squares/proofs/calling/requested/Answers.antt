@@ -11,6 +11,7 @@ returns-then-not-acceptable c =
     request_untyped a.acceptable a.own a.peer a.t a.rb a.store.now a.c a.out.now c.requires.1 c.requires.0 (ap not c.if-not-acceptable.true)
     c.acting.ensures.0 (c.acting.ensures.1 ∙ c.none.ensures)
 
+-- what the search found
 pub kmac-requires : goal.kmac-requires
 kmac-requires c =
     let a = c.args in

@@ -1,0 +1,16 @@
+-- `connection_buffer::time_out` meets its contract.
+use lib.Dec.{lit≤}
+use Rattle.table.specs.Steps.{time_out}
+use Rattle.connection_buffer.proofs.TellLaws.{told-short, tells}
+use Rattle.connection_buffer.proofs.time_out.Goals as goal
+
+pub tell-requires : goal.tell-requires
+tell-requires c =
+    let a = c.args in
+    told-short time_out a.connection.now a.out.now c.load-before.result c.load-before.ensures c.time_out-taken.ensures (lit≤ tt)
+
+pub returns : goal.returns
+returns c =
+    let a = c.args in
+    tells time_out a.connection.now a.out.now c.load-before.result c.load-before.ensures c.time_out-taken.ensures
+    c.tell.result c.tell.new.connection a.events.now c.tell.new.events (record { sfits = c.tell.type_inv }) c.tell.ensures.value c.tell.ensures.connection_after c.tell.ensures.events_after

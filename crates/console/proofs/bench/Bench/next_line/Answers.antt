@@ -1,0 +1,6 @@
+-- `console::bench::Bench::next_line` meets its contract.
+use Rattle.std.proofs.Common.{rules}
+use Rattle.console.proofs.bench.Bench.next_line.Goals as goal
+
+pub returns : goal.returns
+returns c = cc
