@@ -1,6 +1,6 @@
 -- Conversion between the editions (change request 6): the definitions, computed on examples. They stand here, where no edit computes them again.
 -- Assumes nothing.
-use Rattle.std.proofs.Common.{◌≡◌, ℕ, zero, suc, ◌-◌, ◌*◌, Bool, true, false, List, [], ◌∷◌, ◌++◌, replicate, refl}
+use Rattle.std.proofs.Common.{◌≡◌, ℕ, zero, suc, ◌*◌, Bool, true, false, List, [], ◌∷◌, ◌++◌, replicate, refl}
 use lib.Count.{ones, ones_in}
 use Rattle.refusal.specs.House.{Answer, house, gives}
 use Rattle.octets.specs.Bytes.{part, all_below, all_zero}

@@ -16,6 +16,7 @@ number_at-m-requires c =
     let w = sound-says c.args.source c.args.from.now c.requires.from_value in
     omega (arith, w.size)
 
+-- the header once written, the target is as long as it was
 pub copy-requires : goal.copy-requires
 copy-requires c =
     let a = c.args in
