@@ -8,11 +8,11 @@ use crate::answers::shown;
 use crate::connections;
 use crate::connections::Sides;
 use crate::faults::{bad, help, too_long, unknown};
+use crate::session_keys::{build, check, hold};
 use crate::sessions::{begin, receive};
 use crate::show::held;
 use crate::stores::{choose, convert, empty, search, store_of, take};
 use crate::text::line;
-use crate::units::{build, check, hold};
 use lines::orders::{Order, read};
 use session::Session;
 

@@ -15,11 +15,11 @@ mod bench;
 mod connections;
 mod events;
 mod faults;
+mod session_keys;
 mod sessions;
 mod show;
 mod stores;
 mod text;
-mod units;
 
 // Takes the bytes of a chunk between two indexes; where the second is not the chunk's end, the line ends there.
 fn take(

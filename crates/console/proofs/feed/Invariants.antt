@@ -1,5 +1,5 @@
 -- `console::feed` is safe and ends. The loop's invariant: the lent buffers keep their lengths.
-use Rattle.std.proofs.Common.{◌≡◌, ◌-◌, length, refl, arith}
+use Rattle.std.proofs.Common.{◌≡◌, ◌-◌, length}
 use Rattle.console.proofs.feed.Given as goal
 
 abbrev pub invariant-loop-at : goal.invariant-loop-at

@@ -1,5 +1,5 @@
 -- `console::answers::front` meets its contract.
-use Rattle.std.proofs.Common.{sym, arith, length-take, take_all, rules}
+use Rattle.std.proofs.Common.{sym, arith, length-take, take_all}
 use Rattle.console.proofs.answers.front.Goals as goal
 
 pub slice_bounds-result-end : goal.slice_bounds-result-end

@@ -1,5 +1,5 @@
 -- `console::connections::asked` meets its contract.
-use Rattle.std.proofs.Common.{sym, ap, ◌∙◌, rules}
+use Rattle.std.proofs.Common.{sym, ap, ◌∙◌}
 use Rattle.lines.specs.declared.connections.Asked.{Asked}
 use Rattle.console.specs.Connections.{asked as asked_of}
 use Rattle.console.proofs.connections.asked.Goals as goal

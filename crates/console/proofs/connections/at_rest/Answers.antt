@@ -1,5 +1,4 @@
 -- `console::connections::at_rest` meets its contract.
-use Rattle.std.proofs.Common.{rules}
 use Rattle.console.proofs.connections.at_rest.Goals as goal
 
 pub returns : goal.returns

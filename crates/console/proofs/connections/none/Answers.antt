@@ -1,5 +1,4 @@
 -- `console::connections::none` meets its contract.
-use Rattle.std.proofs.Common.{rules}
 use Rattle.console.proofs.connections.none.Goals as goal
 
 pub returns : goal.returns

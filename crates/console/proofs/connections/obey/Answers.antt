@@ -1,5 +1,5 @@
 -- `console::connections::obey` meets its contract.
-use Rattle.std.proofs.Common.{Bool, sym, ap, ◌∙◌, rules}
+use Rattle.std.proofs.Common.{Bool, sym, ap, ◌∙◌}
 use Rattle.console.specs.declared.connections.Side.{Side}
 use Rattle.console.specs.declared.connections.Sides.{Sides}
 use Rattle.console.specs.Connections.{sides_by}

@@ -1,5 +1,5 @@
 -- `console::connections::stepped` meets its contract.
-use Rattle.std.proofs.Common.{ap, rules}
+use Rattle.std.proofs.Common.{ap}
 use Rattle.table.specs.declared.Connection.{Connection}
 use Rattle.console.specs.declared.connections.Side.{Side}
 use Rattle.console.proofs.connections.stepped.Goals as goal

@@ -1,5 +1,5 @@
 -- `console::sessions::begin` meets its contract.
-use Rattle.std.proofs.Common.{sym, ap, ◌∙◌, rules}
+use Rattle.std.proofs.Common.{sym, ap, ◌∙◌}
 use Rattle.session.specs.Sessions.{Beginning, begun_as}
 use Rattle.runs.specs.Calls.{session_of}
 use Rattle.console.proofs.sessions.begin.Goals as goal

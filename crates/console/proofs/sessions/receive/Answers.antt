@@ -1,5 +1,5 @@
 -- `console::sessions::receive` meets its contract.
-use Rattle.std.proofs.Common.{◌≡◌, ℕ, List, take, sym, ap, ◌∙◌, ap₂, rules}
+use Rattle.std.proofs.Common.{◌≡◌, ℕ, List, take, sym, ap, ◌∙◌, ap₂}
 use Rattle.session.specs.Rules.{receive as outcome}
 use Rattle.console.specs.Lent.{output}
 use Rattle.console.specs.Bench.{store_of}
@@ -15,7 +15,7 @@ returns c =
     let a = c.args in
     let n = c.size-n.result in
     let d = c.receive-turn.ensures in
-    let m = bytes_read a.text.now c.word-w.result.now c.decode-k.new.out.0 1 c.decode-k.result c.word-w.ensures c.decode-k.ensures in
+    let m = bytes_read a.text.now c.word-w.result.now c.decode-k.new.out 1 c.decode-k.result c.word-w.ensures c.decode-k.ensures in
     let s : take n a.store.now ≡ store_of a.large a.store.now = ap (λ (k : ℕ). take k a.store.now) c.size-n.ensures.0 in
     let l = front_length a.large n a.store.now c.size-n.ensures c.requires in (
       d.session_is ∙ ap₂ (λ (x t : List ℕ). (outcome a.session x t output).session) m s,

@@ -1,5 +1,5 @@
 -- `console::show::held` is safe and ends.
-use Rattle.std.proofs.Common.{sym, ◌∙◌, rules}
+use Rattle.std.proofs.Common.{sym, ◌∙◌}
 use Rattle.console.proofs.show.held.Goals as goal
 
 pub records-requires : goal.records-requires

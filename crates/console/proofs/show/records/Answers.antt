@@ -1,7 +1,5 @@
-use Rattle.std.proofs.Common.{◌≡◌, ℕ, ◌+◌, ◌-◌, ◌≤◌, true, length, ap, ◌∙◌, arith}
+use Rattle.std.proofs.Common.{length, ap, arith}
 use Rattle.store.specs.Layout.{edition_of}
-use Rattle.store.specs.Store.{key_count}
-use Rattle.runs.specs.Alike.{is_sound}
 use Rattle.records.proofs.Theorems.{held_in_lem}
 use Rattle.store.proofs.SoundLaws.{sound-says}
 use Rattle.store.proofs.SearchLaws.{room}

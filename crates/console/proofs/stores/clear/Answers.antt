@@ -1,5 +1,5 @@
 -- `console::stores::clear` meets its contract.
-use Rattle.std.proofs.Common.{take, rules}
+use Rattle.std.proofs.Common.{take}
 use Rattle.console.proofs.BenchLaws.{front_length, emptied-held}
 use Rattle.console.proofs.stores.clear.Goals as goal
 

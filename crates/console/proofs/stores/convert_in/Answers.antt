@@ -1,5 +1,5 @@
 -- `console::stores::convert_in` meets its contract.
-use Rattle.std.proofs.Common.{◌≡◌, ℕ, Bool, not, List, take, subst, rules}
+use Rattle.std.proofs.Common.{◌≡◌, ℕ, Bool, not, List, take, subst}
 use Rattle.convert.specs.Convert.{Converts}
 use Rattle.convert.specs.declared.Converted.{Converted}
 use Rattle.console.specs.Bench.{limits_of, store_of}
@@ -21,13 +21,13 @@ returns-in-Done c =
     let a = c.args in
     let n = c.size-n.result in
     let h = c.size-n.ensures in
-    held-converted a.large n (store_of a.large a.store.now) (take n a.made.now) c.convert_from.new.to.0 h (front_length (not a.large) n a.made.now h c.requires.1)
-    (converts a.large _ _ _ _ _ c.store_of.ensures c.in-Done.is c.convert_from.ensures) c.convert_from.auto.to.0 a.store.now c.copy.new.s _ c.copy.ensures
+    held-converted a.large n (store_of a.large a.store.now) (take n a.made.now) c.convert_from.new.to h (front_length (not a.large) n a.made.now h c.requires.1)
+    (converts a.large _ _ _ _ _ c.store_of.ensures c.in-Done.is c.convert_from.ensures) c.convert_from.auto.to a.store.now c.copy.new.s _ c.copy.ensures
 
 pub returns-in-Refused : goal.returns-in-Refused
 returns-in-Refused c =
     let a = c.args in
     let n = c.size-n.result in
     let h = c.size-n.ensures in
-    held-refused a.large n (store_of a.large a.store.now) (take n a.made.now) c.convert_from.new.to.0 h (front_length (not a.large) n a.made.now h c.requires.1)
+    held-refused a.large n (store_of a.large a.store.now) (take n a.made.now) c.convert_from.new.to h (front_length (not a.large) n a.made.now h c.requires.1)
     c.in-Refused.h (converts a.large _ _ _ _ _ c.store_of.ensures c.in-Refused.is c.convert_from.ensures)

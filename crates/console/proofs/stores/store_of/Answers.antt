@@ -1,5 +1,5 @@
 -- `console::stores::store_of` meets its contract.
-use Rattle.std.proofs.Common.{ℕ, take, ap, rules}
+use Rattle.std.proofs.Common.{ℕ, take, ap}
 use Rattle.console.proofs.BenchLaws.{front_length}
 use Rattle.console.proofs.stores.store_of.Goals as goal
 

@@ -1,5 +1,5 @@
 -- `console::bench::Bench::append` meets its contract.
-use Rattle.std.proofs.Common.{◌≡◌, ℕ, ◌+◌, ◌-◌, ◌≤◌, length, ap, ◌∙◌, arith, rules}
+use Rattle.std.proofs.Common.{◌≡◌, ◌+◌, ◌-◌, ◌≤◌, length, ap, ◌∙◌, arith}
 use Rattle.octets.specs.Bytes.{part}
 use Rattle.octets.proofs.PartLaws.{part_length}
 use Rattle.console.specs.Bench.{with_filled}

@@ -1,5 +1,5 @@
 -- `console::bench::Bench::end_line` meets its contract.
-use Rattle.std.proofs.Common.{ℕ, ◌<◌, ◌≤◌, Bool, cond, List, length, take, sym, refl, ap, ◌∙◌, length-take-le, rules, le-ltb, lt-ltb}
+use Rattle.std.proofs.Common.{ℕ, ◌<◌, ◌≤◌, Bool, cond, List, length, take, sym, refl, ap, ◌∙◌, length-take-le, le-ltb, lt-ltb}
 use mathlib.Core.Path.{subst⁻¹}
 use Rattle.lines.specs.Orders.{order_of}
 use Rattle.console.specs.declared.bench.Bench.{Bench}

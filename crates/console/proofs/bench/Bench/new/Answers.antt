@@ -1,5 +1,4 @@
 -- `console::bench::Bench::new` meets its contract.
-use Rattle.std.proofs.Common.{rules}
 use Rattle.console.proofs.bench.Bench.new.Goals as goal
 
 pub returns : goal.returns

@@ -1,5 +1,4 @@
 -- `console::bench::Bench::next_line` meets its contract.
-use Rattle.std.proofs.Common.{rules}
 use Rattle.console.proofs.bench.Bench.next_line.Goals as goal
 
 pub returns : goal.returns

@@ -1,11 +1,10 @@
--- `console::units::hold` meets its contract.
-use Rattle.std.proofs.Common.{◌≡◌, ℕ, Bool, List, length, sym, ap, ◌∙◌, rules}
+-- `console::session_keys::hold` meets its contract.
+use Rattle.std.proofs.Common.{◌≡◌, ℕ, Bool, List, length, sym, ap, ◌∙◌}
 use Rattle.authentication.specs.Keys.{derived}
 use Rattle.lines.specs.Digits.{pick_list}
 use Rattle.console.specs.Units.{held_kmac, sound_kmac, keyed_by, keys_by}
 use Rattle.console.proofs.BenchLaws.{none-derived}
-use borrow.Author.Tests.{not-true, not-false}
-use Rattle.console.proofs.units.hold.Goals as goal
+use Rattle.console.proofs.session_keys.hold.Goals as goal
 
 pub returns-then-not-is_held : goal.returns-then-not-is_held
 returns-then-not-is_held c =

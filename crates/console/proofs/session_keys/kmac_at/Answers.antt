@@ -1,12 +1,12 @@
--- `console::units::kmac_at` meets its contract.
-use Rattle.std.proofs.Common.{◌≡◌, ℕ, ◌+◌, ◌-◌, ◌*◌, length, take, drop, sym, ap, ◌∙◌, arith, rules, le-leb}
+-- `console::session_keys::kmac_at` meets its contract.
+use Rattle.std.proofs.Common.{◌≡◌, ℕ, ◌+◌, ◌-◌, ◌*◌, length, arith, le-leb}
 use borrow.Author.Tests.{lt-leb}
 use Rattle.octets.specs.Bytes.{part}
 use Rattle.store.specs.Layout.{edition_of}
 use Rattle.records.proofs.Theorems.{held_in_lem}
 use Rattle.store.specs.Store.{key_count}
 use Rattle.store.proofs.SoundLaws.{sound-says}
-use Rattle.console.proofs.units.kmac_at.Goals as goal
+use Rattle.console.proofs.session_keys.kmac_at.Goals as goal
 
 pub returns-then-place-eq0 : goal.returns-then-place-eq0
 returns-then-place-eq0 c =
@@ -22,8 +22,8 @@ pub returns-then-number_at-place : goal.returns-then-number_at-place
 returns-then-number_at-place c =
     simp (le-leb 1 c.args.place (omega arith), lt-leb c.args.place (key_count c.args.s.now) (omega arith))
 
-pub UNKNOWN-slice-bounds-result-end : goal.UNKNOWN-slice-bounds-result-end
-UNKNOWN-slice-bounds-result-end c =
+pub slice_bounds-result-end-2 : goal.slice_bounds-result-end-2
+slice_bounds-result-end-2 c =
     let p = held_in_lem (edition_of (length c.args.s.now)) c.args.s.now c.requires in
     let w = sound-says p.0 c.args.s.now p.1 in
     omega arith

@@ -1,10 +1,10 @@
--- `console::units::derive` meets its contract.
-use Rattle.std.proofs.Common.{ℕ, List, replicate, sym, ap, ◌∙◌, ap₂, rules}
+-- `console::session_keys::derive` meets its contract.
+use Rattle.std.proofs.Common.{ℕ, List, replicate, sym, ap, ◌∙◌, ap₂}
 use Rattle.refusal.specs.House.{Answer, house_number, unless_refused}
 use Rattle.refusal.proofs.Laws.{buffer-made, buffer-kept}
 use Rattle.authentication.specs.Keys.{derived_as, derived, session_keys}
 use Rattle.console.specs.Units.{keyed_by}
-use Rattle.console.proofs.units.derive.Goals as goal
+use Rattle.console.proofs.session_keys.derive.Goals as goal
 
 pub returns-in-Made : goal.returns-in-Made
 returns-in-Made c =

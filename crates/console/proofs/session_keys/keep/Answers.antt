@@ -1,9 +1,9 @@
--- `console::units::keep` meets its contract.
-use Rattle.std.proofs.Common.{◌≡◌, ℕ, List, length, sym, ap, ◌∙◌, rules}
+-- `console::session_keys::keep` meets its contract.
+use Rattle.std.proofs.Common.{◌≡◌, ℕ, List, length, sym, ap, ◌∙◌}
 use Rattle.octets.specs.Bytes.{splice}
 use Rattle.octets.proofs.PartLaws.{part-whole}
 use Rattle.octets.proofs.SpliceLaws.{splice_all}
-use Rattle.console.proofs.units.keep.Goals as goal
+use Rattle.console.proofs.session_keys.keep.Goals as goal
 
 pub returns : goal.returns
 returns c =
