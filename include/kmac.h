@@ -12,6 +12,9 @@
  * what it passes is then not what the library takes. So compile every file that includes kmac.h again when KMAC_VERSION
  * rises, and check at power-on that kmac_version() is KMAC_VERSION.
  *
+ *     version 6   kmac_self_test, kmac_connect_confirmation, kmac_unit_indication, kmac_time_out, kmac_des_encipher and
+ *                 kmac_des_decipher take up to 128 bytes more of stack, by another compiler. A host that gives one of them a
+ *                 stack of its own must be compiled again.
  *     version 5   kmac_build, kmac_check, kmac_connect_response, kmac_data_request and kmac_unit_indication take up to 72 bytes
  *                 more of stack. A host that gives one of them a stack of its own, of KMAC_STACK_BUILD bytes and so on, must be
  *                 compiled again.
@@ -156,7 +159,7 @@
 extern "C" {
 #endif
 
-#define KMAC_VERSION 5            /* of this header and its library (above); not the interface version of SUBSET-137 */
+#define KMAC_VERSION 6            /* of this header and its library (above); not the interface version of SUBSET-137 */
 
 /* Lengths in bytes. */
 #define KMAC_STORE_LEN 3852       /* the key store, edition 1 */
@@ -184,7 +187,7 @@ extern "C" {
  * memset. tests/c/frames bounds it from the machine code, tests/c/stack.c measures it. Rounded up to a multiple of 64.
  */
 #define KMAC_STACK_VERSION 64
-#define KMAC_STACK_SELF_TEST 8128
+#define KMAC_STACK_SELF_TEST 8256
 #define KMAC_STACK_EMPTY_STORE 64
 #define KMAC_STACK_TO_EDITION2 1408
 #define KMAC_STACK_TO_EDITION1 1408
@@ -199,14 +202,14 @@ extern "C" {
 #define KMAC_STACK_DATA_REQUEST 6912
 #define KMAC_STACK_DISCONNECT_REQUEST 64
 #define KMAC_STACK_CONNECT_INDICATION 7168
-#define KMAC_STACK_CONNECT_CONFIRMATION 7168
+#define KMAC_STACK_CONNECT_CONFIRMATION 7232
 #define KMAC_STACK_DISCONNECT_INDICATION 128
-#define KMAC_STACK_UNIT_INDICATION 6976
-#define KMAC_STACK_TIME_OUT 64
+#define KMAC_STACK_UNIT_INDICATION 7104
+#define KMAC_STACK_TIME_OUT 128
 #define KMAC_STACK_UNIT_KIND 64
-#define KMAC_STACK_DES_ENCIPHER 896
-#define KMAC_STACK_DES_DECIPHER 896
-#define KMAC_STACK_MAX 8128
+#define KMAC_STACK_DES_ENCIPHER 1024
+#define KMAC_STACK_DES_DECIPHER 1024
+#define KMAC_STACK_MAX 8256
 
 /* The refusals of the house. */
 enum kmac_refusal {

@@ -22,7 +22,7 @@ mod connection;
 mod sessions;
 
 // KMAC_VERSION of kmac.h: it rises where a host must be changed or compiled again.
-const VERSION: i32 = 5;
+const VERSION: i32 = 6;
 
 // The version of the library's C interface, for a host to compare with KMAC_VERSION.
 #[unsafe(no_mangle)]
