@@ -13,7 +13,7 @@
  * rises, and check at power-on that kmac_version() is KMAC_VERSION.
  *
  *     version 6   kmac_self_test, kmac_connect_confirmation, kmac_unit_indication, kmac_time_out, kmac_des_encipher and
- *                 kmac_des_decipher take up to 128 bytes more of stack, by another compiler. A host that gives one of them a
+ *                 kmac_des_decipher take up to 112 bytes more of stack, by another compiler. A host that gives one of them a
  *                 stack of its own must be compiled again.
  *     version 5   kmac_build, kmac_check, kmac_connect_response, kmac_data_request and kmac_unit_indication take up to 72 bytes
  *                 more of stack. A host that gives one of them a stack of its own, of KMAC_STACK_BUILD bytes and so on, must be
