@@ -62,6 +62,7 @@ pub enum Sized {
 }
 
 // The kind of a message type number.
+#[tactic(auto, unfolding(crate::specs::Header::kind_of))]
 pub fn kind_of(t: u8) -> Kind
     ensures { result ≡ kind_of t }
 {

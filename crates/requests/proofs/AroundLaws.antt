@@ -17,7 +17,7 @@ use Rattle.store.specs.Request.{remove_at, update_at}
 use Rattle.store.specs.declared.Limits.{Limits}
 use Rattle.store.proofs.EncodingLaws.{LongKeys, peers_of-append, key_records-append, encode_as}
 use Rattle.store.proofs.SoundLaws.{Sound, sound-says, sound_bounded}
-use Rattle.store.proofs.SearchLaws.{Room}
+use Rattle.store.proofs.SearchLaws.{Room, room}
 use Rattle.requests.specs.declared.Counts.{Counts}
 use Rattle.requests.specs.Edit.{Counted}
 use Rattle.store.proofs.DecodeLaws.{entries_from-length, entries_from-split, entries_from-long, peers-before, peers-length, encode-entries}
@@ -49,6 +49,10 @@ fit L s i q r c =
       inside = omega arith;
       peers_fit = omega arith;
     }
+
+-- they fit where the store is sound and has that record
+pub fit_read : {L : Limits} {s : List ℕ} {i : ℕ} {q : Counts} → Bytes s → sound L s ≡ true → i < key_count s → Counted s i q → Fit L s i q
+fit_read {L} {s} {i} {q} b t h c = fit L s i q (room L s i b t h) c
 
 -- an entry between others, within the limits: i entries before it, n in all, m peers in all, f before its own k
 pub record Parts (L : Limits) (pre : List Entry) (e : Entry) (post : List Entry) (i n m f k : ℕ) : Type 0 where

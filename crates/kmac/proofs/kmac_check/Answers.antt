@@ -8,15 +8,14 @@ use Rattle.kmac.proofs.kmac_check.Goals as goal
 
 pub overflow_cast-result : goal.overflow_cast-result
 overflow_cast-result c =
-    record {
-      sfits = (let a = c.args in
-          data_small a.unit.now a.key.now a.destination.now (nonzero a.direction) c.in-Accepted.n (sym c.check.ensures ∙ ap checked_as c.in-Accepted.is));
-    }
+    let a = c.args in
+    record { sfits = data_small a.unit.now a.key.now a.destination.now (nonzero a.direction) c.in-Accepted.n (sym c.check.ensures ∙ ap checked_as c.in-Accepted.is) }
 
 pub returns-in-Accepted : goal.returns-in-Accepted
 returns-in-Accepted c =
-    told-given c.in-Accepted.n ((let a = c.args in
-    data_small a.unit.now a.key.now a.destination.now (nonzero a.direction) c.in-Accepted.n (sym c.check.ensures ∙ ap checked_as c.in-Accepted.is))) (sym (ap checked_as c.in-Accepted.is) ∙ c.check.ensures)
+    let a = c.args in
+    let q = sym (ap checked_as c.in-Accepted.is) ∙ c.check.ensures in
+    told-given c.in-Accepted.n (data_small a.unit.now a.key.now a.destination.now (nonzero a.direction) c.in-Accepted.n (sym q)) q
 
 pub returns-in-Refused : goal.returns-in-Refused
 returns-in-Refused c =

@@ -8,22 +8,22 @@ use Rattle.kmac.proofs.kmac_find.Goals as goal
 
 pub overflow_cast-result : goal.overflow_cast-result
 overflow_cast-result c =
-    record {
-      sfits = (let a = c.args in
-          place-small a.store.now a.peer a.t c.in-At.n c.in-At.e (sym ((sym (ap found_as c.in-At.is) ∙ c.find.ensures))));
-    }
+    let a = c.args in
+    record { sfits = place-small a.store.now a.peer a.t c.in-At.n c.in-At.e (sym c.find.ensures ∙ ap found_as c.in-At.is) }
 
 pub returns-in-At : goal.returns-in-At
 returns-in-At c =
     let a = c.args in
+    let q = sym (ap found_as c.in-At.is) ∙ c.find.ensures in
     record {
-      value = told-given c.in-At.n ((let a = c.args in
-          place-small a.store.now a.peer a.t c.in-At.n c.in-At.e (sym ((sym (ap found_as c.in-At.is) ∙ c.find.ensures))))) (ap place_in ((sym (ap found_as c.in-At.is) ∙ c.find.ensures)));
-      end_after = ap (λ (f : Finding). end_after f a.«end».now) ((sym (ap found_as c.in-At.is) ∙ c.find.ensures));
+      value = told-given c.in-At.n (place-small a.store.now a.peer a.t c.in-At.n c.in-At.e (sym q)) (ap place_in q);
+      end_after = ap (λ (f : Finding). end_after f a.«end».now) q;
     }
 
 pub returns-in-Refused : goal.returns-in-Refused
 returns-in-Refused c =
-    let a = c.args in
-    let e = sym (ap found_as c.in-Refused.is) ∙ c.find.ensures in
-    record { value = told-refused c.in-Refused.h c.refusal_code.result c.refusal_code.ensures (ap place_in e); end_after = ap (λ (f : Finding). end_after f a.«end».now) e }
+    let q = sym (ap found_as c.in-Refused.is) ∙ c.find.ensures in
+    record {
+      value = told-refused c.in-Refused.h c.refusal_code.result c.refusal_code.ensures (ap place_in q);
+      end_after = ap (λ (f : Finding). end_after f c.args.«end».now) q;
+    }

@@ -1,15 +1,14 @@
 -- `requests::add_result` meets its contract.
 use mathlib.Core.Path.{sym, ◌∙◌}
 use native.Mathlib.Omega.{arith}
-use Rattle.store.proofs.SearchLaws.{Framed, frame}
+use Rattle.store.proofs.SearchLaws.{frame}
 use Rattle.octets.proofs.WordLaws.{length-numbers}
 use Rattle.requests.specs.Worked.{new_entry}
 use Rattle.requests.proofs.ResultLaws.{add_not_ours, add_corrupted, add-held, add-full, add-crowded, add_possible}
 use Rattle.requests.proofs.add_result.Goals as goal
 
 pub number_at-n-requires : goal.number_at-n-requires
-number_at-n-requires c = let r : Framed c.args.lim c.args.s.now = let a = c.args in
-    frame a.lim a.s.now (λ j. (c.type_inv.s j).fits) c.requires.s_value in omega arith
+number_at-n-requires c = let r = frame c.args.lim c.args.s.now (λ j. (c.type_inv.s j).fits) c.requires.s_value in omega arith
 
 pub returns-then-recipient-own : goal.returns-then-recipient-own
 returns-then-recipient-own c =
@@ -24,8 +23,7 @@ returns-then-not-all_odd c =
 
 pub key_place-requires : goal.key_place-requires
 key_place-requires c =
-    let r : Framed c.args.lim c.args.s.now = let a = c.args in
-    frame a.lim a.s.now (λ j. (c.type_inv.s j).fits) c.requires.s_value in
+    let r = frame c.args.lim c.args.s.now (λ j. (c.type_inv.s j).fits) c.requires.s_value in
     let number-at-says = c.number_at-n.ensures in
     omega arith
 
@@ -45,8 +43,7 @@ returns-then-keys-n c =
 
 pub number_at-requires : goal.number_at-requires
 number_at-requires c =
-    let r : Framed c.args.lim c.args.s.now = let a = c.args in
-    frame a.lim a.s.now (λ j. (c.type_inv.s j).fits) c.requires.s_value in
+    let r = frame c.args.lim c.args.s.now (λ j. (c.type_inv.s j).fits) c.requires.s_value in
     let number-at-says = c.number_at-n.ensures in
     omega arith
 

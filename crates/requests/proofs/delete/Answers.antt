@@ -1,17 +1,15 @@
 -- `requests::delete` meets its contract.
 use native.Mathlib.Omega.{arith}
-use Rattle.store.proofs.SearchLaws.{Framed, frame}
+use Rattle.store.proofs.SearchLaws.{frame}
 use Rattle.requests.proofs.ResultLaws.{delete-worked, delete-refused}
 use Rattle.requests.proofs.delete.Goals as goal
 
 pub number_at-n-requires : goal.number_at-n-requires
-number_at-n-requires c = let r : Framed c.args.lim c.args.s.now = let a = c.args in
-    frame a.lim a.s.now (λ j. (c.slice_known-1.given j).fits) c.requires in omega arith
+number_at-n-requires c = let r = frame c.args.lim c.args.s.now (λ j. (c.slice_known-1.given j).fits) c.requires in omega arith
 
 pub key_place-i-requires : goal.key_place-i-requires
 key_place-i-requires c =
-    let r : Framed c.args.lim c.args.s.now = let a = c.args in
-    frame a.lim a.s.now (λ j. (c.slice_known-1.given j).fits) c.requires in
+    let r = frame c.args.lim c.args.s.now (λ j. (c.slice_known-1.given j).fits) c.requires in
     let number-at-says = c.number_at-n.ensures in
     omega arith
 

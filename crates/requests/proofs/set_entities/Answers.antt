@@ -2,20 +2,18 @@
 use mathlib.Core.Path.{sym}
 use native.Mathlib.Omega.{arith}
 use Rattle.octets.specs.Words.{numbers}
-use Rattle.store.proofs.SearchLaws.{Framed, frame, Room, room}
+use Rattle.store.proofs.SearchLaws.{frame, room}
 use Rattle.octets.proofs.WordLaws.{length-numbers}
 use Rattle.requests.proofs.AroundLaws.{around}
 use Rattle.requests.proofs.ResultLaws.{entities-worked, entities-refused, entities-over}
 use Rattle.requests.proofs.set_entities.Goals as goal
 
 pub key_place-i-requires : goal.key_place-i-requires
-key_place-i-requires c = let r : Framed c.args.lim c.args.s.now = let a = c.args in
-    frame a.lim a.s.now (λ j. (c.slice_known-1.given j).fits) c.requires.s_value in omega arith
+key_place-i-requires c = let r = frame c.args.lim c.args.s.now (λ j. (c.slice_known-1.given j).fits) c.requires.s_value in omega arith
 
 pub number_at-requires : goal.number_at-requires
 number_at-requires c =
-    let r : Framed c.args.lim c.args.s.now = let a = c.args in
-    frame a.lim a.s.now (λ j. (c.slice_known-1.given j).fits) c.requires.s_value in
+    let r = frame c.args.lim c.args.s.now (λ j. (c.slice_known-1.given j).fits) c.requires.s_value in
     let key-place-says = c.key_place-i.ensures in
     omega arith
 
@@ -27,20 +25,19 @@ returns-then-number_at-i c =
     (λ j. (c.slice_known-1.given j).fits) c.requires.s_value c.if-number_at-i.true
 
 pub counts_at-old-requires : goal.counts_at-old-requires
-counts_at-old-requires c = let r : Room c.args.lim c.args.s.now c.key_place-i.result = let a = c.args in
-    room a.lim a.s.now c.key_place-i.result (λ j. (c.slice_known-1.given j).fits) c.requires.s_value (omega arith) in omega arith
+counts_at-old-requires c =
+    let r = room c.args.lim c.args.s.now c.key_place-i.result (λ j. (c.slice_known-1.given j).fits) c.requires.s_value (omega arith) in
+    omega arith
 
 pub overflow_sub-held : goal.overflow_sub-held
 overflow_sub-held c =
-    let r : Room c.args.lim c.args.s.now c.key_place-i.result = let a = c.args in
-    room a.lim a.s.now c.key_place-i.result (λ j. (c.slice_known-1.given j).fits) c.requires.s_value (omega arith) in
+    let r = room c.args.lim c.args.s.now c.key_place-i.result (λ j. (c.slice_known-1.given j).fits) c.requires.s_value (omega arith) in
     let says = c.counts_at-old.ensures in
     omega arith
 
 pub overflow_add-held : goal.overflow_add-held
 overflow_add-held c =
-    let r : Room c.args.lim c.args.s.now c.key_place-i.result = let a = c.args in
-    room a.lim a.s.now c.key_place-i.result (λ j. (c.slice_known-1.given j).fits) c.requires.s_value (omega arith) in
+    let r = room c.args.lim c.args.s.now c.key_place-i.result (λ j. (c.slice_known-1.given j).fits) c.requires.s_value (omega arith) in
     let says = c.counts_at-old.ensures in
     omega (arith, c.requires.count_in_bounds)
 
@@ -60,8 +57,7 @@ returns-then-most-held c =
 
 pub set_peers-requires : goal.set_peers-requires
 set_peers-requires c =
-    let r : Room c.args.lim c.args.s.now c.key_place-i.result = let a = c.args in
-    room a.lim a.s.now c.key_place-i.result (λ j. (c.slice_known-1.given j).fits) c.requires.s_value (omega arith) in
+    let r = room c.args.lim c.args.s.now c.key_place-i.result (λ j. (c.slice_known-1.given j).fits) c.requires.s_value (omega arith) in
     let says = c.counts_at-old.ensures in
     record { s_value = c.requires.s_value; i_bound = omega arith; bound = (omega arith, c.requires.count_in_bounds) }
 

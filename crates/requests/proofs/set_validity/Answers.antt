@@ -1,25 +1,22 @@
 -- `requests::set_validity` meets its contract.
 use native.Mathlib.Omega.{arith}
-use Rattle.store.proofs.SearchLaws.{Framed, frame}
+use Rattle.store.proofs.SearchLaws.{frame}
 use Rattle.requests.proofs.ValidityLaws.{validity-written}
 use Rattle.requests.proofs.ResultLaws.{validity-worked, validity-refused}
 use Rattle.requests.proofs.set_validity.Goals as goal
 
 pub number_at-n-requires : goal.number_at-n-requires
-number_at-n-requires c = let r : Framed c.args.lim c.args.s.now = let a = c.args in
-    frame a.lim a.s.now (λ j. (c.slice_known-1.given j).fits) c.requires in omega arith
+number_at-n-requires c = let r = frame c.args.lim c.args.s.now (λ j. (c.slice_known-1.given j).fits) c.requires in omega arith
 
 pub key_place-i-requires : goal.key_place-i-requires
 key_place-i-requires c =
-    let r : Framed c.args.lim c.args.s.now = let a = c.args in
-    frame a.lim a.s.now (λ j. (c.slice_known-1.given j).fits) c.requires in
+    let r = frame c.args.lim c.args.s.now (λ j. (c.slice_known-1.given j).fits) c.requires in
     let number-at-says = c.number_at-n.ensures in
     omega arith
 
 pub put_period-requires : goal.put_period-requires
 put_period-requires c =
-    let r : Framed c.args.lim c.args.s.now = let a = c.args in
-    frame a.lim a.s.now (λ j. (c.slice_known-1.given j).fits) c.requires in
+    let r = frame c.args.lim c.args.s.now (λ j. (c.slice_known-1.given j).fits) c.requires in
     let number-at-says = c.number_at-n.ensures in
     let key-place-says = c.key_place-i.ensures in
     omega arith

@@ -1,156 +1,67 @@
 -- `requests::peers::replace_peers` meets its contract.
 use Prim.Native.Nat.{◌+◌, ◌-◌, ◌≤◌}
 use native.Mathlib.Omega.{arith}
-use Rattle.store.proofs.SearchLaws.{Room, room}
-use Rattle.requests.proofs.AroundLaws.{around, Fit, fit}
+use Rattle.store.proofs.SearchLaws.{room}
+use Rattle.requests.proofs.AroundLaws.{around, fit_read}
 use Rattle.requests.proofs.PeersLaws.{peers-written}
 use Rattle.store.specs.Store.{peer_count, count}
 use Rattle.requests.proofs.peers.replace_peers.Goals as goal
 
 pub counts_at-old-requires : goal.counts_at-old-requires
-counts_at-old-requires c = let r : Room c.args.lim c.args.s.now c.args.i = let a = c.args in
-    room a.lim a.s.now a.i (λ j. (c.slice_known-1.given j).fits) c.requires.s_value c.requires.i_bound in omega arith
+counts_at-old-requires c =
+    let a = c.args in
+    let r = room a.lim a.s.now a.i (λ j. (c.slice_known-1.given j).fits) c.requires.s_value c.requires.i_bound in
+    omega arith
 
 pub overflow_mul-keys : goal.overflow_mul-keys
 overflow_mul-keys c =
-    let r : let a = c.args in Fit a.lim a.s.now a.i c.counts_at-old.result = let a = c.args in
-    fit a.lim a.s.now a.i c.counts_at-old.result ((let a = c.args in
-    room a.lim a.s.now a.i (λ j. (c.slice_known-1.given j).fits) c.requires.s_value c.requires.i_bound)) c.counts_at-old.ensures in
+    let r = fit_read (λ j. (c.slice_known-1.given j).fits) c.requires.s_value c.requires.i_bound c.counts_at-old.ensures in
     omega (arith, c.counts_at-old.ensures.peers_are, c.counts_at-old.ensures.count_is, c.requires.bound.0)
 
 pub overflow_add-keys : goal.overflow_add-keys
 overflow_add-keys c =
-    let r : let a = c.args in Fit a.lim a.s.now a.i c.counts_at-old.result = let a = c.args in
-    fit a.lim a.s.now a.i c.counts_at-old.result ((let a = c.args in
-    room a.lim a.s.now a.i (λ j. (c.slice_known-1.given j).fits) c.requires.s_value c.requires.i_bound)) c.counts_at-old.ensures in
-    omega (arith, c.counts_at-old.ensures.peers_are, c.counts_at-old.ensures.count_is, c.requires.bound.0)
-
-pub overflow_mul-first : goal.overflow_mul-first
-overflow_mul-first c =
-    let r : let a = c.args in Fit a.lim a.s.now a.i c.counts_at-old.result = let a = c.args in
-    fit a.lim a.s.now a.i c.counts_at-old.result ((let a = c.args in
-    room a.lim a.s.now a.i (λ j. (c.slice_known-1.given j).fits) c.requires.s_value c.requires.i_bound)) c.counts_at-old.ensures in
+    let r = fit_read (λ j. (c.slice_known-1.given j).fits) c.requires.s_value c.requires.i_bound c.counts_at-old.ensures in
     omega (arith, c.counts_at-old.ensures.peers_are, c.counts_at-old.ensures.count_is, c.requires.bound.0)
 
 pub overflow_add-keys-2 : goal.overflow_add-keys-2
 overflow_add-keys-2 c =
-    let r : let a = c.args in Fit a.lim a.s.now a.i c.counts_at-old.result = let a = c.args in
-    fit a.lim a.s.now a.i c.counts_at-old.result ((let a = c.args in
-    room a.lim a.s.now a.i (λ j. (c.slice_known-1.given j).fits) c.requires.s_value c.requires.i_bound)) c.counts_at-old.ensures in
-    omega (arith, c.counts_at-old.ensures.peers_are, c.counts_at-old.ensures.count_is, c.requires.bound.0)
-
-pub overflow_mul-count : goal.overflow_mul-count
-overflow_mul-count c =
-    let r : let a = c.args in Fit a.lim a.s.now a.i c.counts_at-old.result = let a = c.args in
-    fit a.lim a.s.now a.i c.counts_at-old.result ((let a = c.args in
-    room a.lim a.s.now a.i (λ j. (c.slice_known-1.given j).fits) c.requires.s_value c.requires.i_bound)) c.counts_at-old.ensures in
+    let r = fit_read (λ j. (c.slice_known-1.given j).fits) c.requires.s_value c.requires.i_bound c.counts_at-old.ensures in
     omega (arith, c.counts_at-old.ensures.peers_are, c.counts_at-old.ensures.count_is, c.requires.bound.0)
 
 pub overflow_sub-held : goal.overflow_sub-held
 overflow_sub-held c =
-    let r : let a = c.args in Fit a.lim a.s.now a.i c.counts_at-old.result = let a = c.args in
-    fit a.lim a.s.now a.i c.counts_at-old.result ((let a = c.args in
-    room a.lim a.s.now a.i (λ j. (c.slice_known-1.given j).fits) c.requires.s_value c.requires.i_bound)) c.counts_at-old.ensures in
+    let r = fit_read (λ j. (c.slice_known-1.given j).fits) c.requires.s_value c.requires.i_bound c.counts_at-old.ensures in
     omega (arith, c.counts_at-old.ensures.peers_are, c.counts_at-old.ensures.count_is, c.requires.bound.0)
 
 pub overflow_sub-held-2 : goal.overflow_sub-held-2
 overflow_sub-held-2 c =
-    let r : let a = c.args in Fit a.lim a.s.now a.i c.counts_at-old.result = let a = c.args in
-    fit a.lim a.s.now a.i c.counts_at-old.result ((let a = c.args in
-    room a.lim a.s.now a.i (λ j. (c.slice_known-1.given j).fits) c.requires.s_value c.requires.i_bound)) c.counts_at-old.ensures in
-    omega (arith, c.counts_at-old.ensures.peers_are, c.counts_at-old.ensures.count_is, c.requires.bound.0)
-
-pub overflow_mul-held : goal.overflow_mul-held
-overflow_mul-held c =
-    let r : let a = c.args in Fit a.lim a.s.now a.i c.counts_at-old.result = let a = c.args in
-    fit a.lim a.s.now a.i c.counts_at-old.result ((let a = c.args in
-    room a.lim a.s.now a.i (λ j. (c.slice_known-1.given j).fits) c.requires.s_value c.requires.i_bound)) c.counts_at-old.ensures in
+    let r = fit_read (λ j. (c.slice_known-1.given j).fits) c.requires.s_value c.requires.i_bound c.counts_at-old.ensures in
     omega (arith, c.counts_at-old.ensures.peers_are, c.counts_at-old.ensures.count_is, c.requires.bound.0)
 
 pub replace-requires : goal.replace-requires
 replace-requires c =
-    let r : let a = c.args in Fit a.lim a.s.now a.i c.counts_at-old.result = let a = c.args in
-    fit a.lim a.s.now a.i c.counts_at-old.result ((let a = c.args in
-    room a.lim a.s.now a.i (λ j. (c.slice_known-1.given j).fits) c.requires.s_value c.requires.i_bound)) c.counts_at-old.ensures in
+    let r = fit_read (λ j. (c.slice_known-1.given j).fits) c.requires.s_value c.requires.i_bound c.counts_at-old.ensures in
     omega (arith, c.requires.bound.1, c.counts_at-old.ensures.peers_are, c.counts_at-old.ensures.count_is, c.requires.bound.0)
-
-pub overflow_mul-i : goal.overflow_mul-i
-overflow_mul-i c =
-    let r : let a = c.args in Fit a.lim a.s.now a.i c.counts_at-old.result = let a = c.args in
-    fit a.lim a.s.now a.i c.counts_at-old.result ((let a = c.args in
-    room a.lim a.s.now a.i (λ j. (c.slice_known-1.given j).fits) c.requires.s_value c.requires.i_bound)) c.counts_at-old.ensures in
-    omega (arith, c.counts_at-old.ensures.peers_are, c.counts_at-old.ensures.count_is, c.requires.bound.0)
-
-pub overflow_add-i : goal.overflow_add-i
-overflow_add-i c =
-    let r : let a = c.args in Fit a.lim a.s.now a.i c.counts_at-old.result = let a = c.args in
-    fit a.lim a.s.now a.i c.counts_at-old.result ((let a = c.args in
-    room a.lim a.s.now a.i (λ j. (c.slice_known-1.given j).fits) c.requires.s_value c.requires.i_bound)) c.counts_at-old.ensures in
-    omega (arith, c.counts_at-old.ensures.peers_are, c.counts_at-old.ensures.count_is, c.requires.bound.0)
-
-pub overflow_add-i-2 : goal.overflow_add-i-2
-overflow_add-i-2 c =
-    let r : let a = c.args in Fit a.lim a.s.now a.i c.counts_at-old.result = let a = c.args in
-    fit a.lim a.s.now a.i c.counts_at-old.result ((let a = c.args in
-    room a.lim a.s.now a.i (λ j. (c.slice_known-1.given j).fits) c.requires.s_value c.requires.i_bound)) c.counts_at-old.ensures in
-    omega (arith, c.counts_at-old.ensures.peers_are, c.counts_at-old.ensures.count_is, c.requires.bound.0)
 
 pub put_share-requires : goal.put_share-requires
 put_share-requires c =
-    let r : let a = c.args in Fit a.lim a.s.now a.i c.counts_at-old.result = let a = c.args in
-    fit a.lim a.s.now a.i c.counts_at-old.result ((let a = c.args in
-    room a.lim a.s.now a.i (λ j. (c.slice_known-1.given j).fits) c.requires.s_value c.requires.i_bound)) c.counts_at-old.ensures in
+    let r = fit_read (λ j. (c.slice_known-1.given j).fits) c.requires.s_value c.requires.i_bound c.counts_at-old.ensures in
     omega (arith, c.replace.auto.s, c.counts_at-old.ensures.peers_are, c.counts_at-old.ensures.count_is, c.requires.bound.0)
-
-pub overflow_mul-i-2 : goal.overflow_mul-i-2
-overflow_mul-i-2 c =
-    let r : let a = c.args in Fit a.lim a.s.now a.i c.counts_at-old.result = let a = c.args in
-    fit a.lim a.s.now a.i c.counts_at-old.result ((let a = c.args in
-    room a.lim a.s.now a.i (λ j. (c.slice_known-1.given j).fits) c.requires.s_value c.requires.i_bound)) c.counts_at-old.ensures in
-    omega (arith, c.counts_at-old.ensures.peers_are, c.counts_at-old.ensures.count_is, c.requires.bound.0)
-
-pub overflow_add-i-3 : goal.overflow_add-i-3
-overflow_add-i-3 c =
-    let r : let a = c.args in Fit a.lim a.s.now a.i c.counts_at-old.result = let a = c.args in
-    fit a.lim a.s.now a.i c.counts_at-old.result ((let a = c.args in
-    room a.lim a.s.now a.i (λ j. (c.slice_known-1.given j).fits) c.requires.s_value c.requires.i_bound)) c.counts_at-old.ensures in
-    omega (arith, c.counts_at-old.ensures.peers_are, c.counts_at-old.ensures.count_is, c.requires.bound.0)
-
-pub overflow_add-i-4 : goal.overflow_add-i-4
-overflow_add-i-4 c =
-    let r : let a = c.args in Fit a.lim a.s.now a.i c.counts_at-old.result = let a = c.args in
-    fit a.lim a.s.now a.i c.counts_at-old.result ((let a = c.args in
-    room a.lim a.s.now a.i (λ j. (c.slice_known-1.given j).fits) c.requires.s_value c.requires.i_bound)) c.counts_at-old.ensures in
-    omega (arith, c.counts_at-old.ensures.peers_are, c.counts_at-old.ensures.count_is, c.requires.bound.0)
-
-pub overflow_add-first : goal.overflow_add-first
-overflow_add-first c =
-    let r : let a = c.args in Fit a.lim a.s.now a.i c.counts_at-old.result = let a = c.args in
-    fit a.lim a.s.now a.i c.counts_at-old.result ((let a = c.args in
-    room a.lim a.s.now a.i (λ j. (c.slice_known-1.given j).fits) c.requires.s_value c.requires.i_bound)) c.counts_at-old.ensures in
-    omega (arith, c.counts_at-old.ensures.peers_are, c.counts_at-old.ensures.count_is, c.requires.bound.0)
 
 pub renumber-requires : goal.renumber-requires
 renumber-requires c =
-    let r : let a = c.args in Fit a.lim a.s.now a.i c.counts_at-old.result = let a = c.args in
-    fit a.lim a.s.now a.i c.counts_at-old.result ((let a = c.args in
-    room a.lim a.s.now a.i (λ j. (c.slice_known-1.given j).fits) c.requires.s_value c.requires.i_bound)) c.counts_at-old.ensures in
+    let r = fit_read (λ j. (c.slice_known-1.given j).fits) c.requires.s_value c.requires.i_bound c.counts_at-old.ensures in
     omega (arith, c.replace.auto.s, c.put_share.auto.s, c.counts_at-old.ensures.peers_are, c.counts_at-old.ensures.count_is, c.requires.bound.0)
 
 pub overflow_sub-held-3 : goal.overflow_sub-held-3
 overflow_sub-held-3 c =
-    let r : let a = c.args in Fit a.lim a.s.now a.i c.counts_at-old.result = let a = c.args in
-    fit a.lim a.s.now a.i c.counts_at-old.result ((let a = c.args in
-    room a.lim a.s.now a.i (λ j. (c.slice_known-1.given j).fits) c.requires.s_value c.requires.i_bound)) c.counts_at-old.ensures in
+    let r = fit_read (λ j. (c.slice_known-1.given j).fits) c.requires.s_value c.requires.i_bound c.counts_at-old.ensures in
     omega (arith, c.counts_at-old.ensures.peers_are, c.counts_at-old.ensures.count_is, c.requires.bound.0)
 
 pub put_counts-requires : goal.put_counts-requires
 put_counts-requires c =
-    let r : let a = c.args in Fit a.lim a.s.now a.i c.counts_at-old.result = let a = c.args in
-    fit a.lim a.s.now a.i c.counts_at-old.result ((let a = c.args in
-    room a.lim a.s.now a.i (λ j. (c.slice_known-1.given j).fits) c.requires.s_value c.requires.i_bound)) c.counts_at-old.ensures in
-    omega
-    (arith, c.replace.auto.s, c.put_share.auto.s, c.renumber.auto.s, c.counts_at-old.ensures.peers_are, c.counts_at-old.ensures.count_is, c.requires.bound.0)
+    let r = fit_read (λ j. (c.slice_known-1.given j).fits) c.requires.s_value c.requires.i_bound c.counts_at-old.ensures in
+    omega (arith, c.replace.auto.s, c.put_share.auto.s, c.renumber.auto.s, c.counts_at-old.ensures.peers_are, c.counts_at-old.ensures.count_is, c.requires.bound.0)
 
 pub returns : goal.returns
 returns c =

@@ -1,39 +1,28 @@
 -- `requests::peers::set_peers` meets its contract.
 use native.Mathlib.Omega.{arith}
-use Rattle.store.proofs.SearchLaws.{Room, room}
-use Rattle.requests.proofs.AroundLaws.{around, Fit, fit}
+use Rattle.store.proofs.SearchLaws.{room}
+use Rattle.requests.proofs.AroundLaws.{around, fit_read}
 use Rattle.requests.proofs.PeersLaws.{peers_overwritten}
 use Rattle.requests.proofs.peers.set_peers.Goals as goal
 
 pub counts_at-old-requires : goal.counts_at-old-requires
-counts_at-old-requires c = let r : Room c.args.lim c.args.s.now c.args.i = let a = c.args in
-    room a.lim a.s.now a.i (λ j. (c.slice_known-1.given j).fits) c.requires.s_value c.requires.i_bound in omega arith
+counts_at-old-requires c =
+    let a = c.args in
+    let r = room a.lim a.s.now a.i (λ j. (c.slice_known-1.given j).fits) c.requires.s_value c.requires.i_bound in
+    omega arith
 
 pub overflow_mul-keys : goal.overflow_mul-keys
-overflow_mul-keys c = let r : let a = c.args in Fit a.lim a.s.now a.i c.counts_at-old.result = let a = c.args in
-    fit a.lim a.s.now a.i c.counts_at-old.result ((let a = c.args in
-    room a.lim a.s.now a.i (λ j. (c.slice_known-1.given j).fits) c.requires.s_value c.requires.i_bound)) c.counts_at-old.ensures in omega arith
+overflow_mul-keys c = let r = fit_read (λ j. (c.slice_known-1.given j).fits) c.requires.s_value c.requires.i_bound c.counts_at-old.ensures in omega arith
 
 pub overflow_add-keys : goal.overflow_add-keys
-overflow_add-keys c = let r : let a = c.args in Fit a.lim a.s.now a.i c.counts_at-old.result = let a = c.args in
-    fit a.lim a.s.now a.i c.counts_at-old.result ((let a = c.args in
-    room a.lim a.s.now a.i (λ j. (c.slice_known-1.given j).fits) c.requires.s_value c.requires.i_bound)) c.counts_at-old.ensures in omega arith
-
-pub overflow_mul-first : goal.overflow_mul-first
-overflow_mul-first c = let r : let a = c.args in Fit a.lim a.s.now a.i c.counts_at-old.result = let a = c.args in
-    fit a.lim a.s.now a.i c.counts_at-old.result ((let a = c.args in
-    room a.lim a.s.now a.i (λ j. (c.slice_known-1.given j).fits) c.requires.s_value c.requires.i_bound)) c.counts_at-old.ensures in omega arith
+overflow_add-keys c = let r = fit_read (λ j. (c.slice_known-1.given j).fits) c.requires.s_value c.requires.i_bound c.counts_at-old.ensures in omega arith
 
 pub overflow_add-keys-then-count-new : goal.overflow_add-keys-then-count-new
-overflow_add-keys-then-count-new c = let r : let a = c.args in Fit a.lim a.s.now a.i c.counts_at-old.result = let a = c.args in
-    fit a.lim a.s.now a.i c.counts_at-old.result ((let a = c.args in
-    room a.lim a.s.now a.i (λ j. (c.slice_known-1.given j).fits) c.requires.s_value c.requires.i_bound)) c.counts_at-old.ensures in omega arith
+overflow_add-keys-then-count-new c = let r = fit_read (λ j. (c.slice_known-1.given j).fits) c.requires.s_value c.requires.i_bound c.counts_at-old.ensures in omega arith
 
 pub copy-requires : goal.copy-requires
 copy-requires c =
-    let r : let a = c.args in Fit a.lim a.s.now a.i c.counts_at-old.result = let a = c.args in
-    fit a.lim a.s.now a.i c.counts_at-old.result ((let a = c.args in
-    room a.lim a.s.now a.i (λ j. (c.slice_known-1.given j).fits) c.requires.s_value c.requires.i_bound)) c.counts_at-old.ensures in
+    let r = fit_read (λ j. (c.slice_known-1.given j).fits) c.requires.s_value c.requires.i_bound c.counts_at-old.ensures in
     let e = c.if-count-new.true in
     omega (arith, e, c.requires.bound.1)
 

@@ -3,31 +3,27 @@ use mathlib.Core.Path.{refl}
 use mathlib.Core.List.{[]}
 use native.Mathlib.Omega.{arith}
 use Rattle.store.specs.Store.{first, count, peer_count}
-use Rattle.store.proofs.SearchLaws.{Framed, frame}
+use Rattle.store.proofs.SearchLaws.{frame}
 use Rattle.requests.proofs.AroundLaws.{around}
 use Rattle.requests.proofs.DeleteLaws.{removed_written}
 use Rattle.requests.proofs.removal.remove_at.Goals as goal
 
 pub number_at-n-requires : goal.number_at-n-requires
-number_at-n-requires c = let r : Framed c.args.lim c.args.s.now = let a = c.args in
-    frame a.lim a.s.now (λ j. (c.slice_known-1.given j).fits) c.requires.s_value in omega arith
+number_at-n-requires c = let r = frame c.args.lim c.args.s.now (λ j. (c.slice_known-1.given j).fits) c.requires.s_value in omega arith
 
 pub replace_peers-requires : goal.replace_peers-requires
 replace_peers-requires c =
-    let r : Framed c.args.lim c.args.s.now = let a = c.args in
-    frame a.lim a.s.now (λ j. (c.slice_known-1.given j).fits) c.requires.s_value in
+    let r = frame c.args.lim c.args.s.now (λ j. (c.slice_known-1.given j).fits) c.requires.s_value in
     record { s_value = c.requires.s_value; i_bound = c.requires.i_bound; bound = (omega arith, omega arith) }
 
 pub close_gap-requires : goal.close_gap-requires
 close_gap-requires c =
-    let r : Framed c.args.lim c.args.s.now = let a = c.args in
-    frame a.lim a.s.now (λ j. (c.slice_known-1.given j).fits) c.requires.s_value in
+    let r = frame c.args.lim c.args.s.now (λ j. (c.slice_known-1.given j).fits) c.requires.s_value in
     omega (arith, c.number_at-n.ensures.0, c.replace_peers.auto.s)
 
 pub put_number-requires : goal.put_number-requires
 put_number-requires c =
-    let r : Framed c.args.lim c.args.s.now = let a = c.args in
-    frame a.lim a.s.now (λ j. (c.slice_known-1.given j).fits) c.requires.s_value in
+    let r = frame c.args.lim c.args.s.now (λ j. (c.slice_known-1.given j).fits) c.requires.s_value in
     omega (arith, c.replace_peers.auto.s, c.close_gap.auto.s)
 
 pub returns : goal.returns
