@@ -1,13 +1,14 @@
 -- What each call answers, test by test; and an answer in the paper's numbers is that of one value only.
 -- Assumes nothing.
-use mathlib.Core.Path.{◌≡◌, refl, sym, ap, ◌∙◌}
+use mathlib.Core.Path.{◌≡◌, sym, ap, ◌∙◌}
 use mathlib.Core.Bool.{Bool, true, false}
 use mathlib.Core.List.{List, []}
 use Prim.Native.Nat.{ℕ, ◌+◌, ◌-◌, ◌≤◌, ◌<◌}
 use native.Mathlib.Omega.{arith}
 use lib.Dec.{eqb}
-use lib.ListN.{length, take, drop, replicate}
+use lib.ListN.{length, take, drop}
 use borrow.Author.Tests.{eq-eqb, ne_eqb, le-leb, lt-leb}
+use Rattle.std.specs.Prelude.{Result, Ok, Err, IfOk}
 use Rattle.octets.specs.Bytes.{between, part, splice, same}
 use Rattle.octets.proofs.BoolLaws.{between-true}
 use Rattle.refusal.specs.House.{Answer, house, gives, house_number}
@@ -16,43 +17,37 @@ use Rattle.refusal.specs.declared.Refusal.{Refusal}
 use Rattle.refusal.specs.declared.Refusal.TheVariants.{OutputLength, DataLength, KeyLength}
 use Rattle.authentication.specs.Mac.{mac}
 use Rattle.authentication.specs.Keys.{session_keys, derived_as, derived, Derives}
-use Rattle.authentication.specs.Unit.{unit_of, built, built_as, Builds, body, mac_of, right_contents, checked, checked_as, data_of}
-use Rattle.authentication.specs.declared.Derived.{Derived}
-use Rattle.authentication.specs.declared.Derived.TheVariants as DerivedAs
-use Rattle.authentication.specs.declared.Built.{Built}
-use Rattle.authentication.specs.declared.Built.TheVariants as BuiltAs
-use Rattle.authentication.specs.declared.Checked.{Checked}
-use Rattle.authentication.specs.declared.Checked.TheVariants as CheckedAs
+use Rattle.authentication.specs.Unit.{unit_of, built, Builds, body, mac_of, right_contents, checked, checked_as, data_of}
 
 -- ---- session keys
 
 module _ (kmac ra rb : List ℕ) where
-  pub derive_wrong : (length kmac ≡ 24 → ⊥) → Derives kmac ra rb (DerivedAs.Refused KeyLength) (replicate 24 0)
+  pub derive_wrong : (length kmac ≡ 24 → ⊥) → Derives kmac ra rb (Err KeyLength)
   unfolding derived
-  derive_wrong h = record { said = simp (ne_eqb (length kmac) 24 h); made = simp (ne_eqb (length kmac) 24 h) }
+  derive_wrong h = record { said = simp (ne_eqb (length kmac) 24 h); made = tt }
 
-  pub derive_right : (t : List ℕ) → length kmac ≡ 24 → t ≡ session_keys kmac ra rb → Derives kmac ra rb DerivedAs.Made t
+  pub derive_right : (t : List ℕ) → length kmac ≡ 24 → t ≡ session_keys kmac ra rb → Derives kmac ra rb (Ok t)
   unfolding derived
-  derive_right t h e = record { said = simp (eq-eqb (length kmac) 24 h); made = simp (eq-eqb (length kmac) 24 h) e }
+  derive_right t h e = record { said = simp (eq-eqb (length kmac) 24 h); made = e }
 
 -- ---- build
 
 module _ (key destination : List ℕ) (direction : Bool) (user out : List ℕ) where
-  pub build_key_wrong : (length key ≡ 24 → ⊥) → Builds key destination direction user out out (BuiltAs.Refused KeyLength)
+  pub build_key_wrong : (length key ≡ 24 → ⊥) → Builds key destination direction user out out (Err KeyLength)
   unfolding built
   build_key_wrong h = record { answer = simp (ne_eqb (length key) 24 h); written = simp (ne_eqb (length key) 24 h) }
 
-  pub build_out_wrong : length key ≡ 24 → length out < 1032 → Builds key destination direction user out out (BuiltAs.Refused OutputLength)
+  pub build_out_wrong : length key ≡ 24 → length out < 1032 → Builds key destination direction user out out (Err OutputLength)
   unfolding built
   build_out_wrong h o = record { answer = simp (eq-eqb (length key) 24 h, lt-leb 1032 (length out) o); written = simp (eq-eqb (length key) 24 h, lt-leb 1032 (length out) o) }
 
-  pub build_data_wrong : length key ≡ 24 → 1032 ≤ length out → between 1 1023 (length user) ≡ false → Builds key destination direction user out out (BuiltAs.Refused DataLength)
+  pub build_data_wrong : length key ≡ 24 → 1032 ≤ length out → between 1 1023 (length user) ≡ false → Builds key destination direction user out out (Err DataLength)
   unfolding built
   build_data_wrong h o d =
       record { answer = simp (eq-eqb (length key) 24 h, le-leb 1032 (length out) o, d); written = simp (eq-eqb (length key) 24 h, le-leb 1032 (length out) o, d) }
 
   pub build_right : (after : List ℕ) → length key ≡ 24 → 1032 ≤ length out → between 1 1023 (length user) ≡ true → after ≡ splice out 0 (unit_of key destination direction user)
-      → Builds key destination direction user out after (BuiltAs.Written (length user + 9))
+      → Builds key destination direction user out after (Ok (length user + 9))
   unfolding built
   build_right after h o d e =
       record { answer = simp (eq-eqb (length key) 24 h, le-leb 1032 (length out) o, d); written = simp (eq-eqb (length key) 24 h, le-leb 1032 (length out) o, d) e }
@@ -102,16 +97,16 @@ passed unit key destination direction n e =
 
 -- ---- the user data
 
-module _ (unit key destination : List ℕ) (direction : Bool) (r : Checked) (e : checked_as r ≡ checked unit key destination direction) where
-  pub data_refused : (h : Refusal) → r ≡ CheckedAs.Refused h → [] ≡ data_of (checked unit key destination direction) unit
+module _ (unit key destination : List ℕ) (direction : Bool) (r : Result ℕ Refusal) (e : checked_as r ≡ checked unit key destination direction) where
+  pub data_refused : (h : Refusal) → r ≡ Err h → [] ≡ data_of (checked unit key destination direction) unit
   data_refused h p = ap (λ (k : Answer). data_of k unit) (ap checked_as (sym p) ∙ e)
 
-  pub data_length : (n : ℕ) → r ≡ CheckedAs.Accepted n → n + 9 ≡ length unit
+  pub data_length : (n : ℕ) → r ≡ Ok n → n + 9 ≡ length unit
   data_length n p =
       let a = passed unit key destination direction n (sym e ∙ ap checked_as p) in
       omega (arith, a.number, between-true 9 1032 (length unit) a.long)
 
-  pub data_accepted : (n : ℕ) → r ≡ CheckedAs.Accepted n → take (n + 1 - 1) (drop 1 unit) ≡ data_of (checked unit key destination direction) unit
+  pub data_accepted : (n : ℕ) → r ≡ Ok n → take (n + 1 - 1) (drop 1 unit) ≡ data_of (checked unit key destination direction) unit
   unfolding part
   data_accepted n p =
       let m : n + 1 - 1 ≡ n = omega arith in
@@ -119,20 +114,9 @@ module _ (unit key destination : List ℕ) (direction : Bool) (r : Checked) (e :
 
 -- ---- one value for each answer
 
-pub one-derived : (r s : Derived) → derived_as r ≡ derived_as s → r ≡ s
-one-derived DerivedAs.Made DerivedAs.Made e = refl
-one-derived DerivedAs.Made (DerivedAs.Refused h) e = not-both (house_number h) 0 (sym e)
-one-derived (DerivedAs.Refused g) DerivedAs.Made e = not-both (house_number g) 0 e
-one-derived (DerivedAs.Refused g) (DerivedAs.Refused h) e = ap DerivedAs.Refused (one_number g h (house-number _ _ e))
-
-pub one-built : (r s : Built) → built_as r ≡ built_as s → r ≡ s
-one-built (BuiltAs.Written n) (BuiltAs.Written m) e = ap BuiltAs.Written (gives-number n m e)
-one-built (BuiltAs.Written n) (BuiltAs.Refused h) e = not-both (house_number h) n (sym e)
-one-built (BuiltAs.Refused g) (BuiltAs.Written m) e = not-both (house_number g) m e
-one-built (BuiltAs.Refused g) (BuiltAs.Refused h) e = ap BuiltAs.Refused (one_number g h (house-number _ _ e))
-
-pub one-checked : (r s : Checked) → checked_as r ≡ checked_as s → r ≡ s
-one-checked (CheckedAs.Accepted n) (CheckedAs.Accepted m) e = ap CheckedAs.Accepted (gives-number n m e)
-one-checked (CheckedAs.Accepted n) (CheckedAs.Refused h) e = not-both (house_number h) n (sym e)
-one-checked (CheckedAs.Refused g) (CheckedAs.Accepted m) e = not-both (house_number g) m e
-one-checked (CheckedAs.Refused g) (CheckedAs.Refused h) e = ap CheckedAs.Refused (one_number g h (house-number _ _ e))
+-- the two are made of the same key, or refused alike
+pub same-keys : (r s : Result (List ℕ) Refusal) (k l : List ℕ) → IfOk r (λ x. x ≡ k) → IfOk s (λ x. x ≡ l) → k ≡ l → derived_as r ≡ derived_as s → r ≡ s
+same-keys (Ok x) (Ok y) k l p q m e = ap Ok (p ∙ m ∙ sym q)
+same-keys (Ok x) (Err h) k l p q m e = not-both (house_number h) 0 (sym e)
+same-keys (Err g) (Ok y) k l p q m e = not-both (house_number g) 0 e
+same-keys (Err g) (Err h) k l p q m e = ap Err (one_number g h (house-number _ _ e))

@@ -1,8 +1,9 @@
 -- Session keys: halves of two words in one, three words joined, and odd parity.
 -- Assumes nothing.
-use mathlib.Core.Path.{◌≡◌, sym, ap, ap₂, ◌∙◌}
-use mathlib.Core.List.{List, [], ◌∷◌, ◌++◌, map, map-append, append_assoc}
-use Prim.Native.Nat.{ℕ, ◌+◌, ◌-◌, ◌*◌, ◌/◌, ◌%◌, ◌^◌, ◌<◌}
+use mathlib.Core.Path.{◌≡◌, refl, sym, ap, ap₂, ◌∙◌}
+use mathlib.Core.List.{List, [], ◌∷◌, ◌++◌, map, append_assoc}
+use Prim.Native.Nat.{ℕ, zero, suc, ◌+◌, ◌-◌, ◌*◌, ◌/◌, ◌%◌, ◌^◌, ◌<◌}
+use native.Mathlib.Nat.{not-suc-le-zero, le_of_suc-le-suc}
 use native.Mathlib.Numerals.{add-one}
 use native.Mathlib.Omega.{arith}
 use lib.Bits.{bit_and, bit_or, or_shifted}
@@ -10,7 +11,6 @@ use lib.Count.{ones, ones_step}
 use lib.Dec.{lit≤}
 use lib.ListN.{length, get_or, take, drop, set, length-append, length-map}
 use lib.Pow.{shr_lt}
-use lib.Seq.{take-suc, take-suc-set}
 use Rattle.octets.specs.Bytes.{bytes, splice}
 use Rattle.octets.proofs.NumberLaws.{length-bytes}
 use Rattle.octets.proofs.SpliceLaws.{splice-splice, splice_all}
@@ -72,13 +72,16 @@ pub odd-high : (b : ℕ) → odd b / 2 ≡ b / 2
 unfolding odd
 odd-high b = omega arith
 
--- a turn of the loop over the bytes
-pub parity_turn : (d r : List ℕ) (i q : ℕ) → i < length d → i < length r → q ≡ odd (get_or d i 0) → take i r ≡ map odd (take i d)
-    → take (i + 1) (set r i q) ≡ map odd (take (i + 1) d)
-parity_turn d r i q h l e p =
-    ap (λ (n : ℕ). take n (set r i q)) (add-one i) ∙ take-suc-set r i q l
-    ∙ ap₂ (λ (s : List ℕ) (n : ℕ). s ++ (n ∷ [])) p e
-    ∙ sym (ap (λ (n : ℕ). map odd (take n d)) (add-one i) ∙ ap (map odd) (take-suc d i 0 h) ∙ map-append odd (take i d) (get_or d i 0 ∷ []))
+-- a turn of the loop over the bytes: those before i have their parity, the others are as they were
+parity-next : (d : List ℕ) (i : ℕ) → i < length d → let r = map odd (take i d) ++ drop i d in set r i (odd (get_or r i 0)) ≡ map odd (take (suc i) d) ++ drop (suc i) d
+parity-next [] i h = absurd (not-suc-le-zero h)
+parity-next (x ∷ d) zero h = refl
+parity-next (x ∷ d) (suc i) h = ap (λ (l : List ℕ). odd x ∷ l) (parity-next d i (le_of_suc-le-suc h))
+
+pub parity_turn : (d r : List ℕ) (i q : ℕ) → i < length d → q ≡ odd (get_or r i 0) → r ≡ map odd (take i d) ++ drop i d → set r i q ≡ map odd (take (i + 1) d) ++ drop (i + 1) d
+parity_turn d r i q h e p =
+    ap₂ (λ (s : List ℕ) (n : ℕ). set s i n) p (e ∙ ap (λ (s : List ℕ). odd (get_or s i 0)) p)
+    ∙ parity-next d i h ∙ ap (λ (n : ℕ). map odd (take n d) ++ drop n d) (sym (add-one i))
 
 -- ---- the three keys
 

@@ -81,8 +81,8 @@ macs-same sent m made x b l hx hy ex ey =
     words_same made x hx hy ∙ ap₂ same ex e
 
 -- and what has not eight bytes is no MAC
-pub mac-long : (key destination m sent : List ℕ) → (length sent ≡ 8 → ⊥) → false ≡ same (mac key destination m) sent
-mac-long key destination m sent h = go (same (mac key destination m) sent) refl
+pub mac_long : (key destination m sent : List ℕ) → (length sent ≡ 8 → ⊥) → false ≡ same (mac key destination m) sent
+mac_long key destination m sent h = go (same (mac key destination m) sent) refl
   where
     go : (b : Bool) → same (mac key destination m) sent ≡ b → false ≡ b
     go true e = absurd (h (sym (ap length (same_true (mac key destination m) sent e)) ∙ length-mac key destination m))

@@ -1,6 +1,6 @@
 -- The claims of specs/Claims.antt.
 -- Assumes nothing.
-use mathlib.Core.Path.{◌≡◌, sym, ap, ap₂, ◌∙◌, subst}
+use mathlib.Core.Path.{◌≡◌, refl, sym, ap, ap₂, ◌∙◌, subst}
 use mathlib.Core.Bool.{Bool, true}
 use mathlib.Core.List.{List, [], ◌∷◌, ◌++◌, map}
 use Prim.Native.Nat.{ℕ, zero, suc, ◌+◌, ◌-◌, ◌%◌, ◌≤◌, ◌<◌}
@@ -8,22 +8,22 @@ use native.Mathlib.Nat.{not-suc-le-zero, le_of_suc-le-suc}
 use native.Mathlib.Omega.{arith}
 use lib.Count.{ones}
 use lib.Dec.{eqb, leb}
-use lib.ListN.{length, get_or, take, drop, replicate, length-map, take-append-drop}
+use lib.ListN.{length, get_or, take, drop, length-map, take-append-drop}
 use borrow.Author.Tests.{eqb-true, leb-true, le-leb}
 use Rattle.octets.specs.Bytes.{between, part, same}
 use Rattle.octets.proofs.BoolLaws.{and_both, and_left, and_right, between-true, is-between, same_refl, same_true}
 use Rattle.octets.proofs.SpliceLaws.{splice_front}
 use Rattle.des.specs.Bits.{bytes_of_bits}
-use Rattle.refusal.specs.House.{Answer, gives, unless_refused}
-use Rattle.refusal.proofs.Laws.{asks-gives, gives-number}
+use Rattle.refusal.specs.House.{Answer, gives}
+use Rattle.refusal.proofs.Laws.{answer-one, asks-gives, gives-number}
 use Rattle.authentication.specs.Mac.{mac}
-use Rattle.authentication.specs.Keys.{odd, ks1, ks2, ks3, session_keys, derived}
+use Rattle.authentication.specs.Keys.{odd, ks1, ks2, ks3, session_keys}
 use Rattle.authentication.specs.Unit.{header, message, unit_of, built, buffer, body, mac_of, right_header, right_contents, checked, data_of}
 use Rattle.authentication.specs.Claims.{TellsPair, StringTells, OnePair, ParityFreeMac, ParityFreeCalls, Accepts, IsBuilt, AcceptedExactlyBuilt, WrittenAccepted, RefusedBuildWritesNothing, OddParity, OneAnswer}
 use Rattle.authentication.proofs.PairLaws.{string-tells-pair, one_told}
 use Rattle.authentication.proofs.KeyLaws.{odd-ones, odd-high, length-keys}
 use Rattle.authentication.proofs.UnitLaws.{header-only, header_right, take-first, length-unit, body-unit, mac-unit, data_unit, first-unit}
-use Rattle.authentication.proofs.AnswerLaws.{Passed, passed, all_right, one-derived, one-built, one-checked}
+use Rattle.authentication.proofs.AnswerLaws.{Passed, passed, all_right, same-keys}
 use Rattle.authentication.proofs.ParityLaws.{set-parity, same-mac, same_keys, same-unit, same-built, same-checked, same-derived}
 
 -- ---- the string of the MAC
@@ -48,12 +48,11 @@ parity_free_calls =
       builds = λ a b destination direction user out e after after' r r' p q.
           let k : built a user out ≡ built b user out = same-built a b e user out in
           let u : unit_of a destination direction user ≡ unit_of b destination direction user = same-unit a b e destination direction user in
-          (one-built r r' (p.answer ∙ k ∙ sym q.answer), p.written ∙ ap₂ (λ (k : Answer) (u : List ℕ). buffer k u out) k u ∙ sym q.written);
-      checks = λ a b unit destination direction e r r' p q. one-checked r r' (p ∙ same-checked a b e unit destination direction ∙ sym q);
+          (answer-one (λ n. n) (λ m n p. p) r r' (p.answer ∙ k ∙ sym q.answer), p.written ∙ ap₂ (λ (k : Answer) (u : List ℕ). buffer k u out) k u ∙ sym q.written);
+      checks = λ a b unit destination direction e r r' p q. answer-one (λ n. n) (λ m n p. p) r r' (p ∙ same-checked a b e unit destination direction ∙ sym q);
       hands_out = λ a b unit destination direction e. ap (λ (k : Answer). data_of k unit) (same-checked a b e unit destination direction);
-      derives = λ a b ra rb e r r' key key' p q.
-          let k : derived a ≡ derived b = same-derived a b e in
-          (one-derived r r' (p.said ∙ k ∙ sym q.said), p.made ∙ ap₂ (λ (k : Answer) (t : List ℕ). unless_refused k t (replicate 24 0)) k (same_keys a b e ra rb) ∙ sym q.made);
+      derives = λ a b ra rb e r r' p q.
+          same-keys r r' (session_keys a ra rb) (session_keys b ra rb) p.made q.made (same_keys a b e ra rb) (p.said ∙ same-derived a b e ∙ sym q.said);
     }
 
 -- ---- what is accepted is built
@@ -171,4 +170,9 @@ odd-parity =
     }
 
 pub one_answer : OneAnswer
-one_answer = record { of_keys = one-derived; of_build = one-built; of_check = one-checked }
+one_answer =
+    record {
+      of_keys = λ kmac ra rb a b p q. same-keys a b (session_keys kmac ra rb) (session_keys kmac ra rb) p.made q.made refl (p.said ∙ sym q.said);
+      of_build = λ a b e. answer-one (λ n. n) (λ m n p. p) a b e;
+      of_check = λ a b e. answer-one (λ n. n) (λ m n p. p) a b e;
+    }

@@ -5,11 +5,10 @@ use mathlib.Core.Bool.{Bool, true, false, ◌&&◌}
 use mathlib.Core.List.{List, [], ◌∷◌}
 use Prim.Native.Nat.{ℕ, zero, suc, ◌+◌, ◌-◌, ◌/◌, ◌%◌, ◌≤◌, ◌<◌}
 use native.Mathlib.Omega.{arith}
-use lib.Bits.{bit_and, bit_or, and_mask}
 use lib.Dec.{eqb}
 use lib.ListN.{length, get_or, take, drop, set, length-append}
 use lib.Seq.{take_at, drop_at}
-use borrow.Author.Tests.{eqb-true, eq-eqb, ne_eqb}
+use borrow.Author.Tests.{eqb-true}
 use Rattle.octets.specs.Bytes.{part, splice}
 use Rattle.octets.proofs.BoolLaws.{and_left, and_right}
 use Rattle.octets.proofs.PartLaws.{part-whole}
@@ -20,24 +19,7 @@ use Rattle.authentication.proofs.MacLaws.{length-mac}
 
 -- ---- the first byte
 
-pub header-joined : (direction : Bool) (f : ℕ) → f ≡ flag direction → bit_or 10 f ≡ header direction
-header-joined true f e = ap (bit_or 10) e
-header-joined false f e = ap (bit_or 10) e
-
 module _ (direction : Bool) (b : ℕ) where
-  pub ety_wrong : (b / 32 ≡ 0 → ⊥) → false ≡ right_header direction b
-  unfolding right_header
-  ety_wrong h = simp (ne_eqb (b / 32) 0 h)
-
-  pub mti_wrong : b / 32 ≡ 0 → (bit_and (b / 2) 15 ≡ 5 → ⊥) → false ≡ right_header direction b
-  unfolding right_header
-  mti_wrong e h = simp (eq-eqb (b / 32) 0 e, ne_eqb (b / 2 % 16) 5 (λ p. h (and_mask (b / 2) 4 ∙ p)))
-
-  pub flag-decides : (f : ℕ) → b / 32 ≡ 0 → bit_and (b / 2) 15 ≡ 5 → f ≡ flag direction → eqb (bit_and b 1) f ≡ right_header direction b
-  unfolding right_header
-  flag-decides f e m h =
-      simp (eq-eqb (b / 32) 0 e, eq-eqb (b / 2 % 16) 5 (sym (and_mask (b / 2) 4) ∙ m)) (ap₂ (λ (x y : ℕ). eqb x y) (and_mask b 1) h)
-
   pub header-only : right_header direction b ≡ true → b ≡ header direction
   unfolding right_header
   header-only e =

@@ -1,15 +1,13 @@
 -- What is claimed of the MAC, units and session keys beside the contracts. proofs/Theorems.antt has a proof of each claim.
 -- Assumes nothing.
-use Rattle.std.specs.Prelude.{◌≡◌, Bool, true, List, map, ℕ, ◌+◌, ◌/◌, ◌%◌, ◌≤◌, ◌<◌, length, get_or, take, drop}
+use Rattle.std.specs.Prelude.{◌≡◌, Bool, true, List, map, ℕ, ◌+◌, ◌/◌, ◌%◌, ◌≤◌, ◌<◌, length, get_or, take, drop, Result}
 use Rattle.std.specs.Int.Count.{ones}
 use Rattle.octets.specs.Bytes.{be16, part, all_zero}
 use Rattle.des.specs.Claims.{SameButParity}
 use Rattle.refusal.specs.House.{house, gives}
-use Rattle.authentication.specs.declared.Derived.{Derived}
-use Rattle.authentication.specs.declared.Built.{Built}
-use Rattle.authentication.specs.declared.Checked.{Checked}
+use Rattle.refusal.specs.declared.Refusal.{Refusal}
 use Rattle.authentication.specs.Mac.{mac_string, mac}
-use Rattle.authentication.specs.Keys.{odd, session_keys, derived_as, Derives}
+use Rattle.authentication.specs.Keys.{odd, session_keys, Derives}
 use Rattle.authentication.specs.Unit.{unit_of, built, buffer, built_as, Builds, checked, checked_as, data_of}
 
 -- ---- the string of the MAC (SUBSET-037-2, 6.2.2.3 and 6.2.3.2.1.5 to .7)
@@ -45,12 +43,12 @@ pub record ParityFreeMac : Type 0 where
 
 -- two calls of build, check, user data or session keys that differ in parity bits of the key alone answer the same, and write and hand back the same bytes
 pub record ParityFreeCalls : Type 0 where
-  pub builds : (a b destination : List ℕ) (direction : Bool) (user out : List ℕ) → SameButParity a b → (after after' : List ℕ) (r r' : Built)
+  pub builds : (a b destination : List ℕ) (direction : Bool) (user out : List ℕ) → SameButParity a b → (after after' : List ℕ) (r r' : Result ℕ Refusal)
       → Builds a destination direction user out after r → Builds b destination direction user out after' r' → (r ≡ r') × (after ≡ after')
-  pub checks : (a b unit destination : List ℕ) (direction : Bool) → SameButParity a b → (r r' : Checked)
+  pub checks : (a b unit destination : List ℕ) (direction : Bool) → SameButParity a b → (r r' : Result ℕ Refusal)
       → checked_as r ≡ checked unit a destination direction → checked_as r' ≡ checked unit b destination direction → r ≡ r'
   pub hands_out : (a b unit destination : List ℕ) (direction : Bool) → SameButParity a b → data_of (checked unit a destination direction) unit ≡ data_of (checked unit b destination direction) unit
-  pub derives : (a b ra rb : List ℕ) → SameButParity a b → (r r' : Derived) (key key' : List ℕ) → Derives a ra rb r key → Derives b ra rb r' key' → (r ≡ r') × (key ≡ key')
+  pub derives : (a b ra rb : List ℕ) → SameButParity a b → (r r' : Result (List ℕ) Refusal) → Derives a ra rb r → Derives b ra rb r' → r ≡ r'
 
 -- ---- units
 
@@ -92,6 +90,6 @@ pub record OddParity : Type 0 where
 
 -- the paper's numbers are those of one answer only: a contract that fixes them fixes the answer
 pub record OneAnswer : Type 0 where
-  pub of_keys : (a b : Derived) → derived_as a ≡ derived_as b → a ≡ b
-  pub of_build : (a b : Built) → built_as a ≡ built_as b → a ≡ b
-  pub of_check : (a b : Checked) → checked_as a ≡ checked_as b → a ≡ b
+  pub of_keys : (kmac ra rb : List ℕ) (a b : Result (List ℕ) Refusal) → Derives kmac ra rb a → Derives kmac ra rb b → a ≡ b
+  pub of_build : (a b : Result ℕ Refusal) → built_as a ≡ built_as b → a ≡ b
+  pub of_check : (a b : Result ℕ Refusal) → checked_as a ≡ checked_as b → a ≡ b

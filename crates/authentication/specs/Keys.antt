@@ -1,14 +1,13 @@
 -- Session keys (SUBSET-037-2, 6.2.3.2.3.13 to .16).
 -- Assumes nothing.
-use Rattle.std.specs.Prelude.{◌≡◌, List, ◌++◌, map, ℕ, ◌+◌, ◌*◌, ◌/◌, ◌%◌, eqb, length, take, drop, replicate}
+use Rattle.std.specs.Prelude.{◌≡◌, List, ◌++◌, map, ℕ, ◌+◌, ◌*◌, ◌/◌, ◌%◌, eqb, length, take, drop, Result, IfOk}
 use Rattle.std.specs.Int.Count.{ones}
 use Rattle.des.specs.Bits.{bits, bits_of_bytes, bytes_of_bits}
 use Rattle.des.specs.Des.{encipher_bits, decipher_bits}
 use Rattle.des.specs.Words.{Keys}
-use Rattle.refusal.specs.House.{Answer, house, gives, asks, house_number, unless_refused}
+use Rattle.refusal.specs.House.{Answer, gives, answer_as, asks}
+use Rattle.refusal.specs.declared.Refusal.{Refusal}
 use Rattle.authentication.specs.Mac.{block}
-use Rattle.authentication.specs.declared.Derived.{Derived}
-use Rattle.authentication.specs.declared.Derived.TheVariants.{Made, Refused}
 
 -- ---- the formulas
 
@@ -44,17 +43,15 @@ session_keys kmac ra rb = map odd (bytes_of_bits 8 (ks1 kmac ra rb) ++ (bytes_of
 -- ---- the call
 
 -- the answer in the paper's numbers: H13, or made
-abbrev pub derived_as : Derived → Answer
-derived_as Made = gives 0
-derived_as (Refused h) = house (house_number h)
+abbrev pub derived_as : {K : Type 0} → Result K Refusal → Answer
+derived_as r = answer_as (λ made. 0) r
 
 unfoldable pub derived : List ℕ → Answer
 derived kmac = asks (eqb (length kmac) 24) 13 (gives 0)
 
-pub record Derives (kmac ra rb : List ℕ) (answer : Derived) (key : List ℕ) : Type 0 where
-  pub said : derived_as answer ≡ derived kmac
-  -- the 24 bytes beside it: zeros where it is refused
-  pub made : key ≡ unless_refused (derived kmac) (session_keys kmac ra rb) (replicate 24 0)
+pub record Derives (kmac ra rb : List ℕ) (r : Result (List ℕ) Refusal) : Type 0 where
+  pub said : derived_as r ≡ derived kmac
+  pub made : IfOk r (λ key. key ≡ session_keys kmac ra rb)
 
 -- ---- inside
 

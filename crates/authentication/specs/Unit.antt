@@ -1,13 +1,10 @@
 -- The data unit (SUBSET-037-2, 6.2.5.1 and 6.2.5.3, Table 12), built and checked (document 01, "Ciphers and data units" and "Refusals of the house").
 -- Assumes nothing.
-use Rattle.std.specs.Prelude.{◌≡◌, Bool, true, false, ◌&&◌, List, [], ◌∷◌, ◌++◌, ℕ, ◌+◌, ◌-◌, ◌*◌, ◌/◌, ◌%◌, eqb, leb, length, get_or, take, drop}
+use Rattle.std.specs.Prelude.{◌≡◌, Bool, true, false, ◌&&◌, List, [], ◌∷◌, ◌++◌, ℕ, ◌+◌, ◌-◌, ◌*◌, ◌/◌, ◌%◌, eqb, leb, length, get_or, take, drop, Result}
 use Rattle.octets.specs.Bytes.{between, part, splice, same}
-use Rattle.refusal.specs.House.{Answer, house, gives, asks, house_number, unless_refused}
+use Rattle.refusal.specs.House.{Answer, house, gives, answer_as, asks, unless_refused}
+use Rattle.refusal.specs.declared.Refusal.{Refusal}
 use Rattle.authentication.specs.Mac.{mac}
-use Rattle.authentication.specs.declared.Checked.{Checked}
-use Rattle.authentication.specs.declared.Checked.TheVariants as CheckedAs
-use Rattle.authentication.specs.declared.Built.{Built}
-use Rattle.authentication.specs.declared.Built.TheVariants as BuiltAs
 
 -- ---- the unit
 
@@ -46,11 +43,10 @@ abbrev pub buffer : Answer → List ℕ → List ℕ → List ℕ
 buffer a unit out = unless_refused a (splice out 0 unit) out
 
 -- the answer in the paper's numbers
-abbrev pub built_as : Built → Answer
-built_as (BuiltAs.Written n) = gives n
-built_as (BuiltAs.Refused h) = house (house_number h)
+abbrev pub built_as : Result ℕ Refusal → Answer
+built_as r = answer_as (λ written. written) r
 
-pub record Builds (key destination : List ℕ) (direction : Bool) (user out after : List ℕ) (r : Built) : Type 0 where
+pub record Builds (key destination : List ℕ) (direction : Bool) (user out after : List ℕ) (r : Result ℕ Refusal) : Type 0 where
   pub answer : built_as r ≡ built key user out
   pub written : after ≡ buffer (built key user out) (unit_of key destination direction user) out
 
@@ -81,9 +77,8 @@ checked unit key destination direction =
     (gives (length unit - 9)))))
 
 -- the answer in the paper's numbers
-abbrev pub checked_as : Checked → Answer
-checked_as (CheckedAs.Accepted n) = gives n
-checked_as (CheckedAs.Refused h) = house (house_number h)
+abbrev pub checked_as : Result ℕ Refusal → Answer
+checked_as r = answer_as (λ accepted. accepted) r
 
 -- the user data, the part of the unit after its first byte; none where it is refused
 abbrev pub data_of : Answer → List ℕ → List ℕ

@@ -1,12 +1,10 @@
 // The three formulas of the session keys (6.2.3.2.3.15), and their parity (.16).
-ghost use Rattle.std.specs.Prelude.{◌≡◌, ◌++◌, map, length, take, drop};
+ghost use Rattle.std.specs.Prelude.{◌≡◌, ◌++◌, map, length, take, drop, slice_index};
 ghost use Rattle.octets.specs.Bytes.{bytes};
 ghost use Rattle.des.specs.Bits.{bits};
-ghost use Rattle.fast_des.specs.Joined.{joined};
 ghost use Rattle.authentication.specs.Keys.{odd as oddOf, session_keys, Triples, Drawn};
 
 use crate::cbc::schedule_at;
-use fast_des::Three;
 
 // The left halves of two words, and the right halves.
 pub fn lefts(a: u64, b: u64) -> u64
@@ -21,46 +19,29 @@ pub fn rights(a: u64, b: u64) -> u64
     ((a & 0xffff_ffff) << 32) | (b & 0xffff_ffff)
 }
 
-// One word for each key.
-#[derive(Clone, Copy)]
-struct Words {
-    one: u64,
-    two: u64,
-    three: u64,
-}
-
 // DES (K3, DES⁻¹ (K2, DES (K1, x))), the same of y, and DES (K1, DES⁻¹ (K2, DES (K3, x))).
-fn triples(k1: [u64; 16], k2: [u64; 16], k3: [u64; 16], x: u64, y: u64, table: &[u64]) -> Words
-    requires { table.now ≡ joined }
-    ensures { (Triples k1 k2 k3 x result.one) × ((Triples k1 k2 k3 y result.two) × (Triples k3 k2 k1 x result.three)) }
+fn triples(k1: [u64; 16], k2: [u64; 16], k3: [u64; 16], x: u64, y: u64) -> [u64; 3]
+    ensures { (Triples k1 k2 k3 x (slice_index result 0)) × ((Triples k1 k2 k3 y (slice_index result 1)) × (Triples k3 k2 k1 x (slice_index result 2))) }
 {
     let left = fast_des::enter(x);
-    let s = Three {
-        one: left,
-        two: fast_des::enter(y),
-        three: left,
-    };
-    let a = fast_des::encipher_three(s, k1, k3, table);
-    let b = fast_des::decipher_three(a, k2, table);
-    let c = fast_des::encipher_three(b, k3, k1, table);
-    Words {
-        one: fast_des::leave(c.one),
-        two: fast_des::leave(c.two),
-        three: fast_des::leave(c.three),
-    }
+    let (a, last) = fast_des::encipher([left, fast_des::enter(y)], &k1, left, &k3);
+    let (b, last) = fast_des::decipher(a, &k2, last, &k2);
+    let (c, last) = fast_des::encipher(b, &k3, last, &k1);
+    [
+        fast_des::leave(c[0]),
+        fast_des::leave(c[1]),
+        fast_des::leave(last),
+    ]
 }
 
 // The three formulas, x being the left halves and y the right.
-fn draw(kmac: &[u8], x: u64, y: u64) -> Words
-    requires { length kmac.now ≡ 24 }
-    ensures { Drawn kmac.now x y result.one result.two result.three }
+fn draw(kmac: &[u8; 24], x: u64, y: u64) -> [u64; 3]
+    ensures { Drawn kmac.now x y (slice_index result 0) (slice_index result 1) (slice_index result 2) }
 {
-    let groups = fast_des::groups_table();
-    let k1 = schedule_at(kmac, 0, &groups);
-    let k2 = schedule_at(kmac, 1, &groups);
-    let k3 = schedule_at(kmac, 2, &groups);
-    let table = fast_des::joined_table();
-    triples(k1, k2, k3, x, y, &table)
+    let k1 = schedule_at(kmac, 0);
+    let k2 = schedule_at(kmac, 1);
+    let k3 = schedule_at(kmac, 2);
+    triples(k1, k2, k3, x, y)
 }
 
 // The bytes of three words.
@@ -83,24 +64,20 @@ fn odd(b: u8) -> u8
     (high << 1) | (low as u8)
 }
 
-fn set_parity(d: [u8; 24]) -> [u8; 24]
+fn set_parity(mut d: [u8; 24]) -> [u8; 24]
     ensures { result ≡ map oddOf d }
 {
-    let mut r = [0u8; 24];
-    let mut i = 0;
-    while i < 24 {
-        r[i] = odd(d[i]);
-        i += 1;
+    for b in d.iter_mut() {
+        *b = odd(*b);
     }
-    r
+    d
 }
 
-pub fn derive(kmac: &[u8], ra: [u8; 8], rb: [u8; 8]) -> [u8; 24]
-    requires { length kmac.now ≡ 24 }
+pub fn derive(kmac: &[u8; 24], ra: [u8; 8], rb: [u8; 8]) -> [u8; 24]
     ensures { result ≡ session_keys kmac.now ra rb }
 {
     let a = des::load(ra);
     let b = des::load(rb);
-    let w = draw(kmac, lefts(a, b), rights(a, b));
-    set_parity(join(w.one, w.two, w.three))
+    let [one, two, three] = draw(kmac, lefts(a, b), rights(a, b));
+    set_parity(join(one, two, three))
 }

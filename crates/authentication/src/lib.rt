@@ -1,7 +1,8 @@
 // Session keys, the MAC, and data units built and checked (SUBSET-037-2, 6.2).
 #![tactic(auto)]
 
-ghost use Rattle.std.specs.Prelude.{◌≡◌};
+ghost use Rattle.std.specs.Prelude.{◌≡◌, ◌≢◌, length, IfOk, IfErr};
+ghost use Rattle.refusal.specs.declared.Refusal.TheVariants.{KeyLength};
 ghost use Rattle.octets.specs.Bytes.{same};
 ghost use Rattle.authentication.specs.Mac.{mac};
 ghost use Rattle.authentication.specs.Keys.{Derives};
@@ -9,7 +10,7 @@ ghost use Rattle.authentication.specs.Unit.{Builds, checked_as, checked, data_of
 
 use crate::cbc::mac_word;
 use crate::keys::derive;
-use crate::unit::{KEY, MAC, contents_right, is_mac, mac_right, put_unit};
+use crate::unit::{MAC, contents_right, is_mac, mac_right, put_unit};
 use octets::between;
 use refusal::Refusal;
 
@@ -25,99 +26,73 @@ pub const UNIT_MOST: usize = 1032;
 
 pub const DATA_MOST: usize = 1023;
 
+// A triple key, by its length. Refuses H13.
+fn triple_key(key: &[u8]) -> Result<&[u8; 24], Refusal>
+    ensures ok { IfOk result (λ k. (k.now ≡ key.now) × (length key.now ≡ 24)) }
+    ensures err { IfErr result (λ h. (h ≡ KeyLength) × (length key.now ≢ 24)) }
+{
+    key.try_into().map_err(|_| Refusal::KeyLength)
+}
+
+// Key, destination and direction stay three parameters: the C interface lends them apart, and document 01 fixes the form of check and user_data.
 // ---- session keys
 
-// What session_keys answers.
-#[derive(Clone, Copy)]
-pub enum Derived {
-    Made,
-    Refused(Refusal),
-}
-
-// The answer, and the three keys: zeros where it is refused.
-#[derive(Clone, Copy)]
-pub struct SessionKeys {
-    pub answer: Derived,
-    pub key: [u8; 24],
-}
-
 // The session keys of a KMAC, the responder's random number ra and the initiator's rb. Refuses H13.
-pub fn session_keys(kmac: &[u8], ra: [u8; 8], rb: [u8; 8]) -> SessionKeys
-    ensures { Derives kmac.now ra rb result.answer result.key }
+#[tactic(auto, using(crate::proofs::AnswerLaws::derive_wrong))]
+pub fn session_keys(kmac: &[u8], ra: [u8; 8], rb: [u8; 8]) -> Result<[u8; 24], Refusal>
+    ensures { Derives kmac.now ra rb result }
 {
-    if kmac.len() != KEY {
-        let none = [0u8; 24];
-        return SessionKeys {
-            answer: Derived::Refused(Refusal::KeyLength),
-            key: none,
-        };
-    }
-    let key = derive(kmac, ra, rb);
-    SessionKeys {
-        answer: Derived::Made,
-        key,
-    }
+    Ok(derive(triple_key(kmac)?, ra, rb))
 }
 
 // ---- data units
 
-// What build answers: the length of the unit written.
-#[derive(Clone, Copy)]
-pub enum Built {
-    Written(usize),
-    Refused(Refusal),
-}
-
-// Writes the unit of the user data to the front of out. Refuses H13, H2, H10.
+// Writes the unit of the user data to the front of out, and answers its length. Refuses H13, H2, H10.
 pub fn build(
     key: &[u8],
     destination: [u8; 3],
     direction: bool,
     user: &[u8],
     out: &mut [u8],
-) -> Built
+) -> Result<usize, Refusal>
     ensures { Builds key.now destination direction user.now out.old out.new result }
 {
-    if key.len() != KEY {
-        return Built::Refused(Refusal::KeyLength);
-    }
+    let key = triple_key(key)?;
     if out.len() < UNIT_MOST {
-        return Built::Refused(Refusal::OutputLength);
+        return Err(Refusal::OutputLength);
     }
     if !between(1, DATA_MOST, user.len()) {
-        return Built::Refused(Refusal::DataLength);
+        return Err(Refusal::DataLength);
     }
     put_unit(out, key, destination, direction, user);
-    Built::Written(user.len() + UNIT_LEAST)
+    Ok(user.len() + UNIT_LEAST)
 }
 
-// What check answers: the length of the user data.
-#[derive(Clone, Copy)]
-pub enum Checked {
-    Accepted(usize),
-    Refused(Refusal),
-}
-
-// Judges a unit: its length, its MAC, and then its contents. Refuses H13, H7, H8, H9.
-pub fn check(unit: &[u8], key: &[u8], destination: [u8; 3], direction: bool) -> Checked
+// Judges a unit: its length, its MAC, and then its contents. Answers the length of the user data. Refuses H13, H7, H8, H9.
+#[tactic(auto, using(crate::proofs::AnswerLaws::key_wrong, crate::proofs::AnswerLaws::length_wrong, crate::proofs::AnswerLaws::mac_wrong, crate::proofs::AnswerLaws::contents_wrong, crate::proofs::AnswerLaws::all_right))]
+pub fn check(
+    unit: &[u8],
+    key: &[u8],
+    destination: [u8; 3],
+    direction: bool,
+) -> Result<usize, Refusal>
     ensures { checked_as result ≡ checked unit.now key.now destination direction }
 {
-    if key.len() != KEY {
-        return Checked::Refused(Refusal::KeyLength);
-    }
+    let key = triple_key(key)?;
     if !between(UNIT_LEAST, UNIT_MOST, unit.len()) {
-        return Checked::Refused(Refusal::UnitLength);
+        return Err(Refusal::UnitLength);
     }
     if !mac_right(unit, key, destination) {
-        return Checked::Refused(Refusal::MacDiffers);
+        return Err(Refusal::MacDiffers);
     }
     if !contents_right(unit, direction) {
-        return Checked::Refused(Refusal::UnitContents);
+        return Err(Refusal::UnitContents);
     }
-    Checked::Accepted(unit.len() - UNIT_LEAST)
+    Ok(unit.len() - UNIT_LEAST)
 }
 
 // The user data as a part of the unit; empty where check refuses.
+#[tactic(auto, using(crate::proofs::AnswerLaws::data_refused, crate::proofs::AnswerLaws::data_length, crate::proofs::AnswerLaws::data_accepted))]
 pub fn user_data<'u, 'k>(
     unit: &'u [u8],
     key: &'k [u8],
@@ -126,11 +101,10 @@ pub fn user_data<'u, 'k>(
 ) -> &'u [u8]
     ensures { result.now ≡ data_of (checked unit.now key.now destination direction) unit.now }
 {
-    let Checked::Accepted(n) = check(unit, key, destination, direction) else {
-        return &unit[..0];
-    };
-    let end = n + 1;
-    &unit[1..end]
+    match check(unit, key, destination, direction) {
+        Ok(n) => &unit[1..n + 1],
+        Err(_) => &[],
+    }
 }
 
 // ---- for the crates above
@@ -143,11 +117,9 @@ pub fn mac(key: [u8; 24], destination: [u8; 3], message: &[u8]) -> [u8; 8]
 }
 
 // Whether the bytes sent are the MAC of a message.
+#[tactic(auto, using(crate::proofs::MacLaws::mac_long))]
 pub fn mac_is(key: [u8; 24], destination: [u8; 3], message: &[u8], sent: &[u8]) -> bool
     ensures { result ≡ same (mac key destination message.now) sent.now }
 {
-    if sent.len() != MAC {
-        return false;
-    }
-    is_mac(&key, destination, message, sent)
+    sent.len() == MAC && is_mac(&key, destination, message, sent)
 }

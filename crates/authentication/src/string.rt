@@ -4,21 +4,16 @@ ghost use Rattle.octets.specs.Bytes.{number};
 ghost use Rattle.authentication.specs.Mac.{unpadded, mac_string};
 
 // Byte i of l | DA | m, and zero behind it, as the padding is.
-fn string_byte(i: usize, destination: [u8; 3], m: &[u8]) -> u64
-    ensures { (result ≡ get_or (unpadded destination m.now) i 0) × (result < 256) }
+fn string_byte(i: usize, destination: [u8; 3], m: &[u8]) -> u8
+    ensures { result ≡ get_or (unpadded destination m.now) i 0 }
 {
-    if 5 <= i {
-        let at = i - 5;
-        if at < m.len() {
-            return octets::wide64(m[at]);
-        }
-        return 0;
+    let l = m.len() + 3;
+    match i {
+        0 => (l / 256 % 256) as u8,
+        1 => (l % 256) as u8,
+        2..=4 => destination[i - 2],
+        _ => m.get(i - 5).copied().unwrap_or(0),
     }
-    if 2 <= i {
-        return octets::wide64(destination[i - 2]);
-    }
-    let l = (m.len() + 3) as u64;
-    if i == 0 { l / 256 % 256 } else { l % 256 }
 }
 
 // The number of blocks of l | DA | m | p.
@@ -34,10 +29,8 @@ pub fn word_by_bytes(k: usize, destination: [u8; 3], m: &[u8]) -> u64
     ensures { result ≡ number 8 (mac_string destination m.now) (8 * k) }
 {
     let mut r: u64 = 0;
-    let mut i: usize = 0;
-    while i < 8 {
-        r = r * 256 + string_byte(8 * k + i, destination, m);
-        i += 1;
+    for i in 0..8 {
+        r = r * 256 + u64::from(string_byte(8 * k + i, destination, m));
     }
     r
 }

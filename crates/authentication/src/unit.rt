@@ -7,13 +7,10 @@ ghost use Rattle.authentication.specs.Unit.{flag as flagOf, header as headerOf, 
 use crate::UNIT_LEAST;
 use crate::cbc::mac_word;
 
-// Bytes of a triple key.
-pub const KEY: usize = 24;
-
 // Bytes of a MAC.
 pub const MAC: usize = 8;
 
-// ETY and MTI of a DT unit (6.2.5.1, Table 12).
+// ETY and MTI of a DT unit (6.2.5.1, Table 12). `units`, which rests on this crate, has them and the flag for the other units.
 const ETY: u8 = 0;
 
 const MTI: u8 = 5;
@@ -23,7 +20,7 @@ const MTI: u8 = 5;
 fn flag(direction: bool) -> u8
     ensures { result ≡ flagOf direction }
 {
-    if direction { 1 } else { 0 }
+    u8::from(direction)
 }
 
 // ETY, MTI and the direction flag joined.
@@ -34,24 +31,18 @@ fn header(direction: bool) -> u8
 }
 
 // And taken apart.
+#[tactic(auto, using(std::proofs::lemmas::Nat::and_mask), unfolding(crate::specs::Unit::right_header, crate::specs::Unit::flag))]
 fn header_right(b: u8, direction: bool) -> bool
     ensures { result ≡ right_header direction b }
 {
-    let df = flag(direction);
-    if b >> 5 != ETY {
-        return false;
-    }
-    if (b >> 1) & 15 != MTI {
-        return false;
-    }
-    b & 1 == df
+    b >> 5 == ETY && (b >> 1) & 15 == MTI && b & 1 == flag(direction)
 }
 
 // ---- judging
 
 // All eight bytes of the two MACs are compared at once.
-pub fn is_mac(key: &[u8], destination: [u8; 3], message: &[u8], sent: &[u8]) -> bool
-    requires { (length key.now ≡ 24) × (length sent.now ≡ 8) }
+pub fn is_mac(key: &[u8; 24], destination: [u8; 3], message: &[u8], sent: &[u8]) -> bool
+    requires { length sent.now ≡ 8 }
     ensures { result ≡ same (mac key.now destination message.now) sent.now }
 {
     let made = mac_word(key, destination, message);
@@ -59,8 +50,8 @@ pub fn is_mac(key: &[u8], destination: [u8; 3], message: &[u8], sent: &[u8]) -> 
     made == sent
 }
 
-pub fn mac_right(unit: &[u8], key: &[u8], destination: [u8; 3]) -> bool
-    requires { (length key.now ≡ 24) × (9 ≤ length unit.now) }
+pub fn mac_right(unit: &[u8], key: &[u8; 24], destination: [u8; 3]) -> bool
+    requires { 9 ≤ length unit.now }
     ensures { result ≡ same (mac key.now destination (body unit.now)) (mac_of unit.now) }
 {
     let n = unit.len() - MAC;
@@ -70,10 +61,7 @@ pub fn mac_right(unit: &[u8], key: &[u8], destination: [u8; 3]) -> bool
 pub fn contents_right(unit: &[u8], direction: bool) -> bool
     ensures { result ≡ right_contents direction unit.now }
 {
-    if unit.len() <= UNIT_LEAST {
-        return false;
-    }
-    header_right(unit[0], direction)
+    unit.len() > UNIT_LEAST && header_right(unit[0], direction)
 }
 
 // ---- writing
@@ -88,16 +76,16 @@ fn put_message(out: &mut [u8], direction: bool, user: &[u8])
 }
 
 // The MAC of the first n bytes behind them.
-fn put_mac(out: &mut [u8], n: usize, key: &[u8], destination: [u8; 3])
-    requires { (length key.now ≡ 24) × (n + 8 ≤ length out.old) }
+fn put_mac(out: &mut [u8], n: usize, key: &[u8; 24], destination: [u8; 3])
+    requires { n + 8 ≤ length out.old }
     ensures { out.new ≡ splice out.old n (mac key.now destination (take n out.old)) }
 {
     let x = mac_word(key, destination, &out[..n]);
     octets::put64(out, n, x);
 }
 
-pub fn put_unit(out: &mut [u8], key: &[u8], destination: [u8; 3], direction: bool, user: &[u8])
-    requires { (length key.now ≡ 24) × (length user.now + 9 ≤ length out.old) }
+pub fn put_unit(out: &mut [u8], key: &[u8; 24], destination: [u8; 3], direction: bool, user: &[u8])
+    requires { length user.now + 9 ≤ length out.old }
     ensures { out.new ≡ splice out.old 0 (unit_of key.now destination direction user.now) }
 {
     put_message(out, direction, user);

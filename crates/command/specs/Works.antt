@@ -1,11 +1,11 @@
 -- What the work of a command leaves in the store and in the output.
 -- Assumes nothing.
-use Rattle.std.specs.Prelude.{◌≡◌, List, ℕ, ◌+◌, ◌*◌, ◌≤◌, length}
+use Rattle.std.specs.Prelude.{◌≡◌, List, ℕ}
 use Rattle.octets.specs.Bytes.{splice}
 use Rattle.store.specs.declared.Limits.{Limits}
 use Rattle.store.specs.Store.{encode, entries}
 use Rattle.store.specs.Request.{work}
-use Rattle.requests.specs.declared.Addition.{Addition}
+use Rattle.requests.specs.declared.entry.Addition.{Addition}
 use Rattle.requests.specs.Worked.{addition}
 use Rattle.message.specs.declared.Command.{Command}
 use Rattle.message.specs.declared.Command.TheVariants.{Adds}
@@ -17,7 +17,5 @@ pub record Works (L : Limits) (own : ℕ) (k : Command) (m : List ℕ) (n : ℕ)
   pub output_is : written ≡ splice out 23 (work L own (requests_from k m 22 n) (entries L s)).results
 
 -- the addition that stands in a message at index i
-pub record Reads (m : List ℕ) (i : ℕ) (new : Addition) : Type 0 where
-  pub is : addition new m ≡ request_at Adds m i
-  pub kmac_inside : new.kmac + 24 ≤ length m
-  pub peers_inside : new.peers + 4 * new.count ≤ length m
+abbrev pub Reads : List ℕ → ℕ → Addition → Type 0
+Reads m i new = addition new ≡ request_at Adds m i

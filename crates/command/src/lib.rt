@@ -1,102 +1,92 @@
 // The work of a command: its requests in order, each on the store left by the one before (document 01, "What each request does").
 #![tactic(auto)]
 
-ghost use Rattle.std.specs.Prelude.{◌≡◌, true, ◌+◌, ◌≤◌, length};
+ghost use Rattle.std.specs.Prelude.{◌≡◌, true, ◌+◌, ◌*◌, ◌≤◌, length};
+ghost use Rattle.octets.specs.Bytes.{get16, get32};
+ghost use Rattle.octets.specs.Words.{numbers};
 ghost use Rattle.store.specs.Layout.{Bounded};
 ghost use Rattle.store.specs.Store.{sound};
-ghost use Rattle.requests.specs.Worked.{Worked};
-ghost use Rattle.message.specs.Body.{size_at, fields_ok, fields_from, request_at};
+ghost use Rattle.requests.specs.Worked.{Worked, result_number, peer_numbers};
+ghost use Rattle.message.specs.Body.{size_at, fields_from, request_at};
 ghost use Rattle.command.specs.Works.{Works, Reads};
 
+use message::Command;
 use message::body::{REQUESTS_AT, request_size};
 use message::written::HEAD;
-use message::{Command, Sized};
 use octets::{get16_at, get32_at};
-use requests::Addition;
-use store::Limits;
+use requests::Failure;
+use requests::entry::{Addition, KeyId, PeerList, Period};
+use store::{KMAC, Limits, PEER};
 
-// The size of the request at index i, where one stands.
-fn size_at(command: Command, m: &[u8], i: usize) -> usize
-    requires { (fields_ok command m.now i ≡ true) × (i + size_at command m.now i ≤ length m.now) }
-    ensures { result ≡ size_at command m.now i }
+// The K-IDENTIFIER at index i.
+fn id_at(m: &[u8], i: usize) -> KeyId
+    requires { i + 8 ≤ length m.now }
+    ensures { result ≡ record { issuer = get32 m.now i; serial = get32 m.now (i + 4) } }
 {
-    match request_size(command, m, i) {
-        Sized::Size(size) => size,
-        // Not taken: the body has passed its test.
-        Sized::Bad => 0,
+    KeyId {
+        issuer: get32_at(m, i),
+        serial: get32_at(m, i + 4),
+    }
+}
+
+// The VALID-PERIOD at index i.
+fn period_at(m: &[u8], i: usize) -> Period
+    requires { i + 8 ≤ length m.now }
+    ensures { result ≡ record { start = get32 m.now i; end = get32 m.now (i + 4) } }
+{
+    Period {
+        start: get32_at(m, i),
+        end: get32_at(m, i + 4),
+    }
+}
+
+// The peers behind the PEER-NUM at index i.
+fn peers_at(m: &[u8], i: usize) -> PeerList<'_>
+    requires { i + 2 + 4 * get16 m.now i ≤ length m.now }
+    ensures number { length result.bytes.now ≡ 4 * get16 m.now i }
+    ensures peers { peer_numbers result ≡ numbers m.now (i + 2) (get16 m.now i) }
+{
+    let count = get16_at(m, i) as usize;
+    PeerList {
+        bytes: &m[i + 2..i + 2 + PEER * count],
     }
 }
 
 // The key that a K-STRUCT at index i brings.
-fn addition_at(m: &[u8], i: usize) -> Addition
+#[tactic(auto, unfolding(message::specs::Body::size_at, message::specs::Body::request_at))]
+fn addition_at(m: &[u8], i: usize) -> Addition<'_>
     requires { i + size_at Command.Adds m.now i ≤ length m.now }
     ensures { Reads m.now i result }
 {
-    let count = get16_at(m, i + 37) as usize;
-    let period = i + 39 + 4 * count;
+    let peers = peers_at(m, i + 37);
     Addition {
-        issuer: get32_at(m, i + 1),
-        serial: get32_at(m, i + 5),
+        id: id_at(m, i + 1),
         recipient: get32_at(m, i + 9),
-        kmac: i + 13,
-        peers: i + 39,
-        count,
-        start: get32_at(m, period),
-        end: get32_at(m, period + 4),
+        kmac: &m[i + 13..i + 13 + KMAC],
+        peers,
+        period: period_at(m, i + 39 + PEER * peers.count()),
     }
 }
 
-fn add_one(s: &mut [u8], lim: Limits, own: u32, m: &[u8], i: usize) -> u8
-    requires s_value { sound lim s.old ≡ true }
-    requires i_in_bounds { i + size_at Command.Adds m.now i ≤ length m.now }
-    ensures { Worked lim own (request_at Command.Adds m.now i) s.old s.new result }
-{
-    let new = addition_at(m, i);
-    requests::add(s, lim, own, new, m)
-}
-
-fn delete_one(s: &mut [u8], lim: Limits, own: u32, m: &[u8], i: usize) -> u8
-    requires s_value { sound lim s.old ≡ true }
-    requires i_in_bounds { i + size_at Command.Deletes m.now i ≤ length m.now }
-    ensures { Worked lim own (request_at Command.Deletes m.now i) s.old s.new result }
-{
-    requests::delete(s, lim, get32_at(m, i), get32_at(m, i + 4))
-}
-
-fn validity_one(s: &mut [u8], lim: Limits, own: u32, m: &[u8], i: usize) -> u8
-    requires s_value { sound lim s.old ≡ true }
-    requires i_in_bounds { i + size_at Command.Validities m.now i ≤ length m.now }
-    ensures { Worked lim own (request_at Command.Validities m.now i) s.old s.new result }
-{
-    let issuer = get32_at(m, i);
-    let serial = get32_at(m, i + 4);
-    let start = get32_at(m, i + 8);
-    let end = get32_at(m, i + 12);
-    requests::set_validity(s, lim, issuer, serial, start, end)
-}
-
-fn entities_one(s: &mut [u8], lim: Limits, own: u32, m: &[u8], i: usize) -> u8
-    requires s_value { sound lim s.old ≡ true }
-    requires i_in_bounds { i + size_at Command.Entities m.now i ≤ length m.now }
-    ensures { Worked lim own (request_at Command.Entities m.now i) s.old s.new result }
-{
-    let issuer = get32_at(m, i);
-    let serial = get32_at(m, i + 4);
-    let count = get16_at(m, i + 8) as usize;
-    requests::set_entities(s, lim, issuer, serial, m, i + 10, count)
-}
-
-// One request.
-fn one(s: &mut [u8], lim: Limits, own: u32, command: Command, m: &[u8], i: usize) -> u8
+// One request, as its command has it at index i.
+#[tactic(auto, unfolding(message::specs::Body::size_at, message::specs::Body::request_at))]
+fn one(
+    s: &mut [u8],
+    lim: Limits,
+    own: u32,
+    command: Command,
+    m: &[u8],
+    i: usize,
+) -> Result<(), Failure>
     requires s_value { sound lim s.old ≡ true }
     requires i_in_bounds { i + size_at command m.now i ≤ length m.now }
-    ensures { Worked lim own (request_at command m.now i) s.old s.new result }
+    ensures { Worked lim own (request_at command m.now i) s.old s.new (result_number result) }
 {
     match command {
-        Command::Adds => add_one(s, lim, own, m, i),
-        Command::Deletes => delete_one(s, lim, own, m, i),
-        Command::Validities => validity_one(s, lim, own, m, i),
-        Command::Entities => entities_one(s, lim, own, m, i),
+        Command::Adds => requests::add(s, lim, own, addition_at(m, i)),
+        Command::Deletes => requests::delete(s, lim, id_at(m, i)),
+        Command::Validities => requests::set_validity(s, lim, id_at(m, i), period_at(m, i + 8)),
+        Command::Entities => requests::set_entities(s, lim, id_at(m, i), peers_at(m, i + 8)),
     }
 }
 
@@ -117,11 +107,11 @@ pub fn work(
     ensures { Works lim own command m.now n s.old s.new out.old out.new }
 {
     let mut i = REQUESTS_AT;
-    let mut k: usize = 0;
-    while k < n {
-        let size = size_at(command, m, i);
-        out[HEAD + k] = one(s, lim, own, command, m, i);
+    for k in 0..n {
+        // A request stands there, since the body has passed its test.
+        let size = request_size(command, m, i).unwrap();
+        out[HEAD + k] = requests::result_number(one(s, lim, own, command, m, i));
+        // The index moves on by the size of each request, and they differ: no iterator goes by such steps.
         i += size;
-        k += 1;
     }
 }

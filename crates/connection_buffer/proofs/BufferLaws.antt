@@ -14,9 +14,6 @@ use Rattle.connection_buffer.specs.ConnectionBuffer.{head, connection_bytes}
 
 -- ---- a part, copied out
 
-pub part-copied : (s r : List ℕ) (i n : ℕ) → i + n ≤ length s → r ≡ splice (replicate n 0) 0 (part s i n) → r ≡ part s i n
-part-copied s r i n h e = e ∙ splice_all (replicate n 0) (part s i n) (length-replicate {A = ℕ} n 0 ∙ sym (part_length s i n h))
-
 -- ---- the first twelve, written
 
 pub head-written : (state role own peer : ℕ) {one two : List ℕ} → one ≡ splice (set (set (replicate 12 0) 0 state) 1 role) 4 (be32 own) → two ≡ splice one 8 (be32 peer)
@@ -49,7 +46,3 @@ filled front ra rb key one two three four l m n o p q r t =
 
     regroup' : (a b c d : List ℕ) → (a ++ (b ++ c)) ++ d ≡ a ++ (b ++ (c ++ d))
     regroup' a b c d = simp append_assoc
-
-pub bytes-joined : (c : Connection) (role : ℕ) (front r : List ℕ) → role ≡ flag c.responder → front ≡ head c.state role c.own c.peer
-    → r ≡ front ++ (c.ra ++ (c.rb ++ (c.key ++ replicate 12 0))) → r ≡ connection_bytes c
-bytes-joined c role front r p q e = e ∙ ap (λ (f : List ℕ). f ++ (c.ra ++ (c.rb ++ (c.key ++ replicate 12 0)))) (q ∙ ap (λ (x : ℕ). head c.state x c.own c.peer) p)

@@ -1,5 +1,6 @@
 -- The fields of a connection fit their bytes, whatever a step does.
 -- Assumes nothing.
+use Rattle.std.specs.Prelude.{Ok, Err}
 use mathlib.Core.Path.{◌≡◌, refl, subst}
 use mathlib.Core.Bool.{Bool, true, false}
 use mathlib.Core.List.{List, ◌∷◌}
@@ -13,9 +14,7 @@ use Rattle.octets.proofs.PartLaws.{part_length}
 use Rattle.octets.proofs.WordLaws.{get32-fits}
 use Rattle.refusal.specs.House.{gives}
 use Rattle.authentication.proofs.KeyLaws.{length-keys}
-use Rattle.units.specs.declared.Fault.{Fault}
-use Rattle.units.specs.declared.Fault.TheVariants.{Fine, Bad}
-use Rattle.units.specs.Units.{Test, test, sender_of, random, first_fault, au1_fault, au2_fault}
+use Rattle.units.specs.Units.{Fault, Test, test, sender_of, random, first_fault, au1_fault, au2_fault}
 use Rattle.table.specs.declared.Connection.{Connection}
 use Rattle.table.specs.declared.State.{State}
 use Rattle.table.specs.declared.State.TheVariants.{IDLE, WFTC, WFAR, DATA, WFAU3, WFRESP}
@@ -61,24 +60,24 @@ after-fits (to s) c about f g = moved-fits about s (g s refl)
 
 -- ---- what is accepted
 
-first-passed : (b : Bool) (reason sub : ℕ) (ts : List Test) → first_fault (test b reason sub ∷ ts) ≡ Fine → b ≡ true
+first-passed : (b : Bool) (reason sub : ℕ) (ts : List Test) → first_fault (test b reason sub ∷ ts) ≡ Ok tt → b ≡ true
 unfolding first_fault
 first-passed true reason sub ts e = refl
 first-passed false reason sub ts e = let z : ◌≡◌ {A = ℕ} 0 1 = cc in absurd (omega arith)
 
-au1-long : (unit : List ℕ) → au1_fault unit ≡ Fine → length unit ≡ 13
+au1-long : (unit : List ℕ) → au1_fault unit ≡ Ok tt → length unit ≡ 13
 unfolding au1_fault
 au1-long unit e = eqb-true (length unit) 13 (first-passed (eqb (length unit) 13) 10 1 _ e)
 
-au2-long : (key : List ℕ) (own peer : ℕ) (rb unit : List ℕ) → au2_fault key own peer rb unit ≡ Fine → length unit ≡ 21
+au2-long : (key : List ℕ) (own peer : ℕ) (rb unit : List ℕ) → au2_fault key own peer rb unit ≡ Ok tt → length unit ≡ 21
 unfolding au2_fault
 au2-long key own peer rb unit e = eqb-true (length unit) 21 (first-passed (eqb (length unit) 21) 10 2 _ e)
 
 -- ---- a square that goes to another state than IDLE starts set-up, and has found no fault
 
 abbrev fine : Fault → Bool
-fine Fine = true
-fine (Bad reason sub) = false
+fine (Ok u) = true
+fine (Err why) = false
 
 record Goes (q : Square) (b : Bool) : Type 0 where
   when : (s : State) → q.next ≡ to s → is IDLE s ≡ false → b ≡ true
@@ -95,8 +94,8 @@ goes q b e = record { when = λ s f g. e }
 
 at-request : (s : State) (f : Fault) → let q = square SaConnReq s (unless 0 f).when in Goes q (starts_set_up q.down)
 unfolding square row_in table
-at-request IDLE Fine = goes _ _ refl
-at-request IDLE (Bad reason sub) = ends _ _ refl
+at-request IDLE (Ok u) = goes _ _ refl
+at-request IDLE (Err why) = ends _ _ refl
 at-request WFTC f = rests _ _ refl
 at-request WFAR f = rests _ _ refl
 at-request DATA f = rests _ _ refl
@@ -105,8 +104,8 @@ at-request WFRESP f = rests _ _ refl
 
 at-indication : (s : State) (f : Fault) → let q = square TConnInd s (unless 1 f).when in Goes q (fine f)
 unfolding square row_in table
-at-indication IDLE Fine = goes _ _ refl
-at-indication IDLE (Bad reason sub) = ends _ _ refl
+at-indication IDLE (Ok u) = goes _ _ refl
+at-indication IDLE (Err why) = ends _ _ refl
 at-indication WFTC f = rests _ _ refl
 at-indication WFAR f = rests _ _ refl
 at-indication DATA f = rests _ _ refl
@@ -116,18 +115,18 @@ at-indication WFRESP f = rests _ _ refl
 at_confirmation : (s : State) (f : Fault) → let q = square TConnConf s (unless 2 f).when in Goes q (fine f)
 unfolding square row_in table
 at_confirmation IDLE f = rests _ _ refl
-at_confirmation WFTC Fine = goes _ _ refl
-at_confirmation WFTC (Bad reason sub) = ends _ _ refl
+at_confirmation WFTC (Ok u) = goes _ _ refl
+at_confirmation WFTC (Err why) = ends _ _ refl
 at_confirmation WFAR f = rests _ _ refl
 at_confirmation DATA f = rests _ _ refl
 at_confirmation WFAU3 f = rests _ _ refl
 at_confirmation WFRESP f = rests _ _ refl
 
-is-fine : (f : Fault) → fine f ≡ true → f ≡ Fine
-is-fine Fine e = refl
-is-fine (Bad reason sub) e = let z : ◌≡◌ {A = ℕ} 0 1 = cc in absurd (omega arith)
+is-fine : (f : Fault) → fine f ≡ true → f ≡ Ok tt
+is-fine (Ok u) e = refl
+is-fine (Err why) e = let z : ◌≡◌ {A = ℕ} 0 1 = cc in absurd (omega arith)
 
-typed-fine : (acceptable : Bool) (f : Fault) → typed acceptable f ≡ Fine → f ≡ Fine
+typed-fine : (acceptable : Bool) (f : Fault) → typed acceptable f ≡ Ok tt → f ≡ Ok tt
 typed-fine true f e = e
 typed-fine false f e = let z : ◌≡◌ {A = ℕ} 0 1 = cc in absurd (omega arith)
 
@@ -139,7 +138,7 @@ sender-fits unit h = omega (arith, h 0, h 1, h 2, h 3)
 about-fits : (i : Input) → Lent i → (c : Connection) → Fitting c → (starts_set_up (meets i c).down ≡ true → (place : ℕ) × ((asked i c).search ≡ gives place)) → (s : State) → (meets i c).next ≡ to s → is IDLE s ≡ false → Fitting (asked i c).about
 unfolding asked
 about-fits (connect_request acceptable own peer t rb store) l c f w s e g =
-    let place = w ((at-request (state_of c.state) (typed acceptable Fine)).when s e g) in
+    let place = w ((at-request (state_of c.state) (typed acceptable (Ok tt))).when s e g) in
     record { state_fits = lit< tt; own_fits = l.0; peer_fits = l.1; ra_long = refl; rb_long = l.2; key_long = key-whole store own peer t place.0 place.1 }
 about-fits connect_response l c f w s e g = f
 about-fits (data_request sent) l c f w s e g = f

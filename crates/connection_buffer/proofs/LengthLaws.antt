@@ -1,5 +1,6 @@
 -- How long the unit is that a step writes, and how much user data go up.
 -- Assumes nothing.
+use Rattle.std.specs.Prelude.{Ok, Err}
 use mathlib.Core.Path.{◌≡◌, refl, sym, ap, ◌∙◌}
 use mathlib.Core.Bool.{Bool, true, false, not, cond}
 use mathlib.Core.List.{List, [], ◌∷◌, ◌++◌}
@@ -17,9 +18,7 @@ use Rattle.authentication.proofs.MacLaws.{length-mac}
 use Rattle.authentication.proofs.UnitLaws.{length-unit}
 use Rattle.authentication.proofs.AnswerLaws.{passed}
 use Rattle.units.specs.declared.Code.{Code}
-use Rattle.units.specs.declared.Fault.{Fault}
-use Rattle.units.specs.declared.Fault.TheVariants.{Fine, Bad}
-use Rattle.units.specs.Units.{etcs_id, random, au1_unit, au2_text, au2_mac, au2_unit, au3_mac, au3_unit, ar_mac, ar_unit, di_unit, au1_fault, au2_fault, au3_fault, ar_fault, code, contents_code}
+use Rattle.units.specs.Units.{Fault, etcs_id, random, au1_unit, au2_text, au2_mac, au2_unit, au3_mac, au3_unit, ar_mac, ar_unit, di_unit, au1_fault, au2_fault, au3_fault, ar_fault, code, contents_code}
 use Rattle.table.specs.declared.Connection.{Connection}
 use Rattle.table.specs.declared.Kind.{Kind}
 use Rattle.table.specs.declared.Kind.TheVariants.{Au3, Ar, Dt}
@@ -111,8 +110,8 @@ step-told i b out m = record { by = λ a e. written-most i (connection_of b) out
 -- ---- the user data that go up: two bytes hold their length
 
 unless-count : (n : ℕ) (f : Fault) → (unless n f).count < 65536
-unless-count n Fine = lit< tt
-unless-count n (Bad reason sub) = lit< tt
+unless-count n (Ok u) = lit< tt
+unless-count n (Err why) = lit< tt
 
 judged-count : (unit key destination : List ℕ) (direction responder : Bool) → (judged_data (checked unit key destination direction) responder unit).count < 65536
 judged-count unit key destination direction responder = go (checked unit key destination direction) refl
@@ -142,7 +141,7 @@ unit-count Dt s c unit =
 
 asked-count : (i : Input) (c : Connection) → (asked i c).verdict.count < 65536
 unfolding asked
-asked-count (connect_request acceptable own peer t rb store) c = unless-count 0 (typed acceptable Fine)
+asked-count (connect_request acceptable own peer t rb store) c = unless-count 0 (typed acceptable (Ok tt))
 asked-count connect_response c = lit< tt
 asked-count (data_request sent) c = lit< tt
 asked-count (disconnect_request reason sub) c = lit< tt

@@ -1,5 +1,6 @@
 -- What C is told of a step.
 -- Assumes nothing.
+use Rattle.std.specs.Prelude.{Result}
 use mathlib.Core.Path.{◌≡◌, sym, ap, ap₂, ◌∙◌, subst}
 use mathlib.Core.List.{List}
 use Prim.Native.Nat.{ℕ, ◌≤◌}
@@ -10,18 +11,19 @@ use mir.ValLaws.{to_z-of_z}
 use Rattle.refusal.specs.Code.{code}
 use Rattle.table.specs.declared.Connection.{Connection}
 use Rattle.table.specs.declared.Kind.{Kind}
-use Rattle.table.specs.declared.Stepped.{Stepped}
+use Rattle.refusal.specs.declared.Refusal.{Refusal}
+use Rattle.table.specs.declared.Actions.{Actions}
 use Rattle.table.specs.Steps.{Input, unit_indication, Answered, step, stepped_as, Does, kind_numbered}
 use Rattle.connection_buffer.specs.ConnectionBuffer.{connection_of, unit_length, Short, connection_after, events_after, Tells}
 use Rattle.connection_buffer.proofs.LengthLaws.{brought, step-told}
 
 -- the kind that a number names
-pub named : (n : ℕ) (unit out : List ℕ) (c : Connection) {k : Kind} {answer : Stepped} {then : Connection} {output : List ℕ} → k ≡ kind_numbered n
+pub named : (n : ℕ) (unit out : List ℕ) (c : Connection) {k : Kind} {answer : Result Actions Refusal} {then : Connection} {output : List ℕ} → k ≡ kind_numbered n
     → Does (step (unit_indication k unit) c out) answer then output → Does (step (unit_indication (kind_numbered n) unit) c out) answer then output
 named n unit out c {k} {answer} {then} {output} e d = subst (λ (k : Kind). Does (step (unit_indication k unit) c out) answer then output) e d
 
 -- a call of `setup` on the connection c that the buffer b holds
-module _ (i : Input) (b out : List ℕ) (c : Connection) (loaded : c ≡ connection_of b) {answer : Stepped} {then : Connection} {output : List ℕ} (d : Does (step i c out) answer then output) where
+module _ (i : Input) (b out : List ℕ) (c : Connection) (loaded : c ≡ connection_of b) {answer : Result Actions Refusal} {then : Connection} {output : List ℕ} (d : Does (step i c out) answer then output) where
   does : Does (step i (connection_of b) out) answer then output
   does = subst (λ (x : Connection). Does (step i x out) answer then output) loaded d
 

@@ -95,8 +95,8 @@ state-told Nothing transport timer state = refl
 state-told ConnectIndication transport timer state = refl
 state-told ConnectConfirmation transport timer state = refl
 state-told (DataIndication n) transport timer state = refl
-state-told (DisconnectIndication reason sub) transport timer state = refl
-state-told (ReportIndication reason sub) transport timer state = refl
+state-told (DisconnectIndication why) transport timer state = refl
+state-told (ReportIndication why) transport timer state = refl
 
 pub events_agree : EventsAgree
 events_agree =

@@ -64,8 +64,8 @@ events_with Nothing transport timer state = 0 ∷ transport ∷ timer ∷ state 
 events_with ConnectIndication transport timer state = 1 ∷ transport ∷ timer ∷ state ∷ 0 ∷ 0 ∷ 0 ∷ 0 ∷ []
 events_with ConnectConfirmation transport timer state = 2 ∷ transport ∷ timer ∷ state ∷ 0 ∷ 0 ∷ 0 ∷ 0 ∷ []
 events_with (DataIndication n) transport timer state = 3 ∷ transport ∷ timer ∷ state ∷ 0 ∷ 0 ∷ be16 n
-events_with (DisconnectIndication reason sub) transport timer state = 4 ∷ transport ∷ timer ∷ state ∷ reason ∷ sub ∷ 0 ∷ 0 ∷ []
-events_with (ReportIndication reason sub) transport timer state = 5 ∷ transport ∷ timer ∷ state ∷ reason ∷ sub ∷ 0 ∷ 0 ∷ []
+events_with (DisconnectIndication why) transport timer state = 4 ∷ transport ∷ timer ∷ state ∷ why.reason ∷ why.sub ∷ 0 ∷ 0 ∷ []
+events_with (ReportIndication why) transport timer state = 5 ∷ transport ∷ timer ∷ state ∷ why.reason ∷ why.sub ∷ 0 ∷ 0 ∷ []
 
 abbrev pub event_bytes : Actions → ℕ → List ℕ
 event_bytes a state = events_with a.user (transport_number a.transport) (timer_number a.timer) state

@@ -1,30 +1,22 @@
 // A connection as 64 bytes, and the events of a step as 8.
 ghost use Rattle.std.specs.Prelude.{◌≡◌, ◌++◌, ◌+◌, ◌≤◌, replicate};
 ghost use Rattle.octets.specs.Bytes.{part};
-ghost use Rattle.connection_buffer.specs.ConnectionBuffer.{head, connection_bytes, connection_of, transport_number, timer_number, events_with, event_bytes, kind_number};
+ghost use Rattle.connection_buffer.specs.ConnectionBuffer.{head, connection_bytes, connection_of, events_with, event_bytes};
 
-use table::{
-    AR_NUMBER, AU3_NUMBER, Actions, Connection, DT_NUMBER, Kind, Timer, ToTransport, ToUser,
-};
+use table::{Actions, Connection, ToUser};
 use units::header::flag;
 
 // ---- a connection
 
-fn random_at(buffer: &[u8; 64], at: usize) -> [u8; 8]
-    requires { at + 8 ≤ 64 }
-    ensures { result ≡ part buffer.now at 8 }
+// The N bytes from this place on.
+#[tactic(auto, unfolding(octets::specs::Bytes::part))]
+fn array_at<const N: usize>(buffer: &[u8; 64], at: usize) -> [u8; N]
+    requires { at + N ≤ 64 }
+    ensures { result ≡ part buffer.now at N }
 {
-    let mut random = [0u8; 8];
-    octets::copy(&mut random, 0, buffer, at, 8);
-    random
-}
-
-fn key_of(buffer: &[u8; 64]) -> [u8; 24]
-    ensures { result ≡ part buffer.now 28 24 }
-{
-    let mut key = [0u8; 24];
-    octets::copy(&mut key, 0, buffer, 28, 24);
-    key
+    let mut bytes = [0u8; N];
+    bytes.copy_from_slice(&buffer[at..at + N]);
+    bytes
 }
 
 pub fn load(buffer: &[u8; 64]) -> Connection
@@ -34,9 +26,9 @@ pub fn load(buffer: &[u8; 64]) -> Connection
     let responder = buffer[1] != 0;
     let own = octets::get32_at(buffer, 4);
     let peer = octets::get32_at(buffer, 8);
-    let ra = random_at(buffer, 12);
-    let rb = random_at(buffer, 20);
-    let key = key_of(buffer);
+    let ra = array_at(buffer, 12);
+    let rb = array_at(buffer, 20);
+    let key = array_at(buffer, 28);
     Connection {
         state,
         responder,
@@ -80,33 +72,7 @@ pub fn bytes_of(c: Connection) -> [u8; 64]
     joined(&front, &ra, &rb, &key)
 }
 
-// ---- events
-
-fn transport_number(transport: ToTransport) -> u8
-    ensures { result ≡ transport_number transport }
-{
-    match transport {
-        ToTransport::Quiet => 0,
-        ToTransport::TConnReq => 1,
-        ToTransport::TConnResp => 2,
-        ToTransport::TDiscReq => 3,
-        ToTransport::TDiscReqDi => 4,
-        ToTransport::SendAu3 => 5,
-        ToTransport::SendAr => 6,
-        ToTransport::SendDt => 7,
-    }
-}
-
-fn timer_number(timer: Timer) -> u8
-    ensures { result ≡ timer_number timer }
-{
-    match timer {
-        Timer::Keep => 0,
-        Timer::Set => 1,
-        Timer::Stop => 2,
-        Timer::StopAll => 3,
-    }
-}
+// ---- events: the numbers are those of kmac.h, and of the definition events_with.
 
 fn events_with(user: ToUser, transport: u8, timer: u8, state: u8) -> [u8; 8]
     ensures { result ≡ events_with user transport timer state }
@@ -115,45 +81,24 @@ fn events_with(user: ToUser, transport: u8, timer: u8, state: u8) -> [u8; 8]
         ToUser::Nothing => [0, transport, timer, state, 0, 0, 0, 0],
         ToUser::ConnectIndication => [1, transport, timer, state, 0, 0, 0, 0],
         ToUser::ConnectConfirmation => [2, transport, timer, state, 0, 0, 0, 0],
-        ToUser::DataIndication(n) => [
-            3,
-            transport,
-            timer,
-            state,
-            0,
-            0,
-            (n / 256 % 256) as u8,
-            (n % 256) as u8,
-        ],
-        ToUser::DisconnectIndication(reason, sub) => {
-            [4, transport, timer, state, reason, sub, 0, 0]
+        ToUser::DataIndication(n) => {
+            let [.., high, low] = n.to_be_bytes();
+            [3, transport, timer, state, 0, 0, high, low]
         }
-        ToUser::ReportIndication(reason, sub) => [5, transport, timer, state, reason, sub, 0, 0],
+        ToUser::DisconnectIndication(why) => {
+            [4, transport, timer, state, why.reason, why.sub, 0, 0]
+        }
+        ToUser::ReportIndication(why) => [5, transport, timer, state, why.reason, why.sub, 0, 0],
     }
 }
 
 pub fn events_of(actions: Actions, state: u8) -> [u8; 8]
     ensures { result ≡ event_bytes actions state }
 {
-    let user = actions.user;
-    let transport = actions.transport;
-    let timer = actions.timer;
     events_with(
-        user,
-        transport_number(transport),
-        timer_number(timer),
+        actions.user,
+        actions.transport as u8,
+        actions.timer as u8,
         state,
     )
-}
-
-// ---- the kinds of unit
-
-pub fn kind_number(kind: Kind) -> u8
-    ensures { result ≡ kind_number kind }
-{
-    match kind {
-        Kind::Au3 => AU3_NUMBER,
-        Kind::Ar => AR_NUMBER,
-        Kind::Dt => DT_NUMBER,
-    }
 }

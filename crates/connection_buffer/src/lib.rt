@@ -9,32 +9,31 @@ ghost use Rattle.refusal.specs.Code.{code};
 ghost use Rattle.table.specs.Steps.{kind_of, connect_request, connect_response, data_request, disconnect_request, connect_indication, connect_confirmation, disconnect_indication, unit_indication, time_out, step, stepped_as, kind_numbered};
 ghost use Rattle.connection_buffer.specs.ConnectionBuffer.{connection_of, kind_number, unit_length, Short, connection_after, events_after, Tells};
 
-use crate::buffers::{bytes_of, events_of, kind_number, load};
-use refusal::refusal_code;
+use crate::buffers::{bytes_of, events_of, load};
 use setup::kind_of;
-use table::{Step, Stepped};
+use table::Step;
 
 mod buffers;
 
-// What the host is told of a step; a refusal writes nowhere.
+// What the host is told of a step; a refusal writes nowhere. C lends connection and events apart, so they are two parameters.
 fn tell(taken: Step, connection: &mut [u8; 64], events: &mut [u8; 8]) -> i32
     requires { Short (stepped_as taken.answer) }
     ensures value { result ≡ code (unit_length (stepped_as taken.answer)) }
     ensures connection_after { connection.new ≡ connection_after (stepped_as taken.answer) taken.connection connection.old }
     ensures events_after { events.new ≡ events_after (stepped_as taken.answer) taken.connection events.old }
 {
-    let answer = taken.answer;
     let then = taken.connection;
-    match answer {
-        Stepped::Done(actions) => {
+    match taken.answer {
+        Ok(actions) => {
             *connection = bytes_of(then);
             *events = events_of(actions, then.state);
             actions.written as i32
         }
-        Stepped::Refused(h) => refusal_code(h),
+        Err(h) => i32::from(h),
     }
 }
 
+// Each event loads the connection and tells for itself: one function for it would take the event as a closure, whose contract says the event's own once more.
 // ---- events from the user
 
 // Sa-CONNECT.request.
@@ -60,8 +59,7 @@ pub fn connect_request(
 pub fn connect_response(connection: &mut [u8; 64], events: &mut [u8; 8], out: &mut [u8]) -> i32
     ensures { Tells (step connect_response (connection_of connection.old) out.old) result connection.old connection.new events.old events.new out.new }
 {
-    let before = load(connection);
-    let taken = setup::respond(before, out);
+    let taken = setup::respond(load(connection), out);
     tell(taken, connection, events)
 }
 
@@ -74,8 +72,7 @@ pub fn data_request(
 ) -> i32
     ensures { Tells (step (data_request user.now) (connection_of connection.old) out.old) result connection.old connection.new events.old events.new out.new }
 {
-    let before = load(connection);
-    let taken = setup::send(before, user, out);
+    let taken = setup::send(load(connection), user, out);
     tell(taken, connection, events)
 }
 
@@ -89,8 +86,7 @@ pub fn disconnect_request(
 ) -> i32
     ensures { Tells (step (disconnect_request reason sub) (connection_of connection.old) out.old) result connection.old connection.new events.old events.new out.new }
 {
-    let before = load(connection);
-    let taken = setup::release(before, reason, sub, out);
+    let taken = setup::release(load(connection), reason, sub, out);
     tell(taken, connection, events)
 }
 
@@ -124,8 +120,7 @@ pub fn connect_confirmation(
 ) -> i32
     ensures { Tells (step (connect_confirmation unit.now) (connection_of connection.old) out.old) result connection.old connection.new events.old events.new out.new }
 {
-    let before = load(connection);
-    let taken = setup::confirmed(before, unit, out);
+    let taken = setup::confirmed(load(connection), unit, out);
     tell(taken, connection, events)
 }
 
@@ -139,8 +134,7 @@ pub fn disconnect_indication(
 ) -> i32
     ensures { Tells (step (disconnect_indication reason unit.now) (connection_of connection.old) out.old) result connection.old connection.new events.old events.new out.new }
 {
-    let before = load(connection);
-    let taken = setup::disconnected(before, reason, unit, out);
+    let taken = setup::disconnected(load(connection), reason, unit, out);
     tell(taken, connection, events)
 }
 
@@ -154,8 +148,7 @@ pub fn unit_indication(
 ) -> i32
     ensures { Tells (step (unit_indication (kind_numbered kind) unit.now) (connection_of connection.old) out.old) result connection.old connection.new events.old events.new out.new }
 {
-    let before = load(connection);
-    let taken = setup::unit(before, setup::kind_numbered(kind), unit, out);
+    let taken = setup::unit(load(connection), setup::kind_numbered(kind), unit, out);
     tell(taken, connection, events)
 }
 
@@ -163,7 +156,7 @@ pub fn unit_indication(
 pub fn unit_kind(unit: &[u8]) -> i32
     ensures { result ≡ code (gives (kind_number (kind_of unit.now))) }
 {
-    kind_number(kind_of(unit)) as i32
+    kind_of(unit) as i32
 }
 
 // ---- the timer
@@ -172,7 +165,6 @@ pub fn unit_kind(unit: &[u8]) -> i32
 pub fn time_out(connection: &mut [u8; 64], events: &mut [u8; 8], out: &mut [u8]) -> i32
     ensures { Tells (step time_out (connection_of connection.old) out.old) result connection.old connection.new events.old events.new out.new }
 {
-    let before = load(connection);
-    let taken = setup::time_out(before, out);
+    let taken = setup::time_out(load(connection), out);
     tell(taken, connection, events)
 }

@@ -18,8 +18,7 @@ use Rattle.authentication.specs.Unit.{unit_of, data_of}
 use Rattle.authentication.specs.Claims.{Accepts}
 use Rattle.authentication.proofs.KeyLaws.{length-keys}
 use Rattle.authentication.proofs.Theorems.{accepted-exactly-built}
-use Rattle.units.specs.declared.Fault.{Fault}
-use Rattle.units.specs.Units.{type_of, etcs_id, sender_of, random, au1_unit, au2_unit, au3_unit, ar_unit, au2_fault}
+use Rattle.units.specs.Units.{Fault, type_of, etcs_id, sender_of, random, au1_unit, au2_unit, au3_unit, ar_unit, au2_fault}
 use Rattle.units.proofs.Theorems.{built_are_fine, fields_are_told}
 use Rattle.table.specs.declared.Connection.{Connection}
 use Rattle.table.specs.declared.Kind.TheVariants.{Au3, Ar, Dt}

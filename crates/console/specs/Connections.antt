@@ -1,8 +1,10 @@
 -- The two connections of the bench, and what a line asks of one of them.
 -- Assumes nothing.
-use Rattle.std.specs.Prelude.{ℕ, Bool, true, false, List, []}
+use Rattle.std.specs.Prelude.{ℕ, true, List, []}
 use Rattle.des.specs.Bits.{bits, bytes_of_bits}
 use Rattle.table.specs.Steps.{Input, connect_request, connect_response, data_request, disconnect_request, connect_indication, connect_confirmation, disconnect_indication, unit_indication, time_out, idle, step, kind_numbered}
+use Rattle.lines.specs.declared.connections.Name.{Name}
+use Rattle.lines.specs.declared.connections.Name.TheVariants as TheName
 use Rattle.lines.specs.declared.connections.Event.{Event}
 use Rattle.lines.specs.declared.connections.Event.TheVariants as TheEvent
 use Rattle.lines.specs.declared.connections.Asked.{Asked}
@@ -54,7 +56,7 @@ abbrev pub asked : Asked → List ℕ → List ℕ → Side → Side
 asked (AskedAs.Idle own) text store s = at_rest own
 asked (AskedAs.Event e) text store s = brought e text store s
 
--- of connection b, or of a; the other is as it was
-abbrev pub sides_by : Bool → Asked → List ℕ → List ℕ → Sides → Sides
-sides_by true what text store s = record { a = s.a; b = asked what text store s.b }
-sides_by false what text store s = record { a = asked what text store s.a; b = s.b }
+-- of the connection of this name; the other is as it was
+abbrev pub sides_by : Name → Asked → List ℕ → List ℕ → Sides → Sides
+sides_by TheName.A what text store s = record { a = asked what text store s.a; b = s.b }
+sides_by TheName.B what text store s = record { a = s.a; b = asked what text store s.b }

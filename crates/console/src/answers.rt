@@ -1,7 +1,7 @@
 // What the console answers, a line each.
 ghost use Rattle.std.specs.Prelude.{◌≡◌, take};
 
-use crate::text::{bytes, end, line, number, text, word};
+use crate::text::{line, named, text};
 use message::written::HEAD;
 use refusal::Refusal;
 use session::Session;
@@ -11,29 +11,29 @@ const RESPONSE_AT: usize = 20;
 
 // ---- refusals
 
-fn reason(h: Refusal) {
+fn reason(h: Refusal) -> &'static str {
     match h {
-        Refusal::StoreLength => line(b" store has the length of no edition"),
-        Refusal::OutputLength => line(b" output under 1032 bytes"),
-        Refusal::SessionClosed => line(b" session is closed"),
-        Refusal::MessageShort => line(b" message shorter than a header"),
-        Refusal::NoSessionInit => line(b" no valid session init"),
-        Refusal::SameIdentity => line(b" own identity is the peer's"),
-        Refusal::UnitLength => line(b" unit is not 9 to 1032 bytes"),
-        Refusal::MacDiffers => line(b" MAC differs"),
-        Refusal::UnitContents => line(b" no user data, or ETY, MTI or direction wrong"),
-        Refusal::DataLength => line(b" user data not 1 to 1023 bytes"),
-        Refusal::NoKey => line(b" no key fits"),
-        Refusal::StoreUnsound => line(b" store is unsound"),
-        Refusal::KeyLength => line(b" key is not 24 bytes"),
-        Refusal::NoRoom => line(b" more than 64 keys or 256 peers held"),
+        Refusal::StoreLength => "store has the length of no edition",
+        Refusal::OutputLength => "output under 1032 bytes",
+        Refusal::SessionClosed => "session is closed",
+        Refusal::MessageShort => "message shorter than a header",
+        Refusal::NoSessionInit => "no valid session init",
+        Refusal::SameIdentity => "own identity is the peer's",
+        Refusal::UnitLength => "unit is not 9 to 1032 bytes",
+        Refusal::MacDiffers => "MAC differs",
+        Refusal::UnitContents => "no user data, or ETY, MTI or direction wrong",
+        Refusal::DataLength => "user data not 1 to 1023 bytes",
+        Refusal::NoKey => "no key fits",
+        Refusal::StoreUnsound => "store is unsound",
+        Refusal::KeyLength => "key is not 24 bytes",
+        Refusal::NoRoom => "more than 64 keys or 256 peers held",
     }
 }
 
 pub fn refused(h: Refusal) {
-    text(b"refused H");
-    number(refusal::house_number(h) as u64);
-    reason(h);
+    let number = u8::from(h);
+    let reason = reason(h);
+    line(format_args!("refused H{number} {reason}"));
 }
 
 // ---- replies and units
@@ -48,103 +48,74 @@ pub fn front(s: &[u8], n: usize) -> &[u8]
     s
 }
 
-// A name and bytes in hex.
-pub fn named(name: &[u8], s: &[u8]) {
-    text(name);
-    bytes(s);
-    end();
-}
-
 // RESULT of each request.
 fn results(s: &[u8]) {
-    text(b", RESULT");
-    let mut i = HEAD;
-    while i < s.len() {
-        text(b" ");
-        number(s[i] as u64);
-        i += 1;
+    text(", RESULT");
+    for result in s {
+        text(format_args!(" {result}"));
     }
 }
 
 // What the module means by each RESPONSE but 0. The numbers are those of 000, 5.3.15.
-fn meaning(code: u8) {
+fn meaning(code: u8) -> &'static str {
     match code {
-        1 => text(b" request not supported"),
-        2 => text(b" message length error"),
-        3 => text(b" sender is not the peer"),
-        4 => text(b" receiver is not the own identity"),
-        5 => text(b" unsupported interface version"),
-        6 => text(b" store is unsound"),
-        9 => text(b" sequence number is not the expected one"),
-        10 => text(b" transaction number repeated"),
-        11 => text(b" format error"),
-        _ => {}
+        1 => " request not supported",
+        2 => " message length error",
+        3 => " sender is not the peer",
+        4 => " receiver is not the own identity",
+        5 => " unsupported interface version",
+        6 => " store is unsound",
+        9 => " sequence number is not the expected one",
+        10 => " transaction number repeated",
+        11 => " format error",
+        _ => "",
     }
-}
-
-fn response(code: u8) {
-    text(b"  RESPONSE ");
-    number(code as u64);
-    meaning(code);
 }
 
 // A reply, and beside it RESPONSE and each RESULT.
 pub fn reply(s: &[u8]) {
-    named(b"reply ", s);
+    named("reply ", s);
     if s.len() < HEAD {
         return;
     }
-    response(s[RESPONSE_AT]);
+    let code = s[RESPONSE_AT];
+    let meaning = meaning(code);
+    text(format_args!("  RESPONSE {code}{meaning}"));
     if s.len() > HEAD {
-        results(s);
+        results(&s[HEAD..]);
     }
-    end();
+    line("");
 }
 
 pub fn place(n: usize, until: u32) {
-    text(b"place ");
-    number(n as u64);
-    text(b" until ");
-    word(until);
-    end();
+    line(format_args!("place {n} until {until:08x}"));
 }
 
 // ---- sessions
 
-fn state(code: u8) {
-    if code == Session::WAITING {
-        text(b"session waiting");
-    } else if code == Session::OPEN {
-        text(b"session open");
-    } else {
-        text(b"session closed");
-    }
-}
-
-fn identities(own: u32, peer: u32) {
-    text(b", own ");
-    word(own);
-    text(b", peer ");
-    word(peer);
-}
-
-// The transaction number that is remembered.
-fn last(remembered: bool, transaction: u32) {
-    if remembered {
-        number(transaction as u64);
-    } else {
-        text(b"none");
+fn state(code: u8) -> &'static str {
+    match code {
+        Session::WAITING => "waiting",
+        Session::OPEN => "open",
+        _ => "closed",
     }
 }
 
 pub fn shown(session: Session) {
-    state(session.state);
-    identities(session.own, session.peer);
-    text(b", next ");
-    number(session.next as u64);
-    text(b", expected ");
-    number(session.expected as u64);
-    text(b", last transaction ");
-    last(session.remembered, session.transaction);
-    end();
+    let Session {
+        own,
+        peer,
+        next,
+        expected,
+        transaction,
+        ..
+    } = session;
+    let state = state(session.state);
+    text(format_args!("session {state}, own {own:08x}, peer {peer:08x}"));
+    text(format_args!(", next {next}, expected {expected}, last transaction "));
+    if session.remembered {
+        line(transaction);
+    } else {
+        line("none");
+    }
 }

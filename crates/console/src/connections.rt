@@ -5,7 +5,7 @@ ghost use Rattle.console.specs.Connections.{at_rest, bytes_at, input_of, stepped
 
 use crate::events::{state, told};
 use crate::text::LINE_BYTES;
-use lines::connections::{Asked, Event};
+use lines::connections::{Asked, Event, Name};
 use lines::digits::decode;
 use lines::words::word;
 use table::{Connection, Step};
@@ -35,26 +35,25 @@ fn at_rest(own: u32) -> Side
 pub fn none() -> Sides
     ensures { result ≡ record { a = at_rest 0; b = at_rest 0 } }
 {
-    let a = at_rest(0);
-    let b = at_rest(0);
-    Sides { a, b }
+    Sides {
+        a: at_rest(0),
+        b: at_rest(0),
+    }
 }
 
-// The word that has the bytes of an event, a unit or user data; where it has none, word 5, which no line has.
+// The word that has the bytes of an event, a unit or user data; where it has none, word 5, which no line has. An empty word, as the definition bytes_at has it, and so no Option.
 fn bytes_at(event: Event) -> usize
     ensures { result ≡ bytes_at event }
 {
     match event {
-        Event::Call(_, _, _) => 5,
-        Event::Indicate(_, _) => 4,
-        Event::Confirm => 2,
+        Event::Confirm | Event::Say | Event::End => 2,
         Event::Bring(_) => 3,
-        Event::Respond => 5,
-        Event::Say => 2,
-        Event::Release(_, _) => 5,
-        Event::Lost(_) => 5,
-        Event::End => 2,
-        Event::Late => 5,
+        Event::Indicate(_, _) => 4,
+        Event::Call(_, _, _)
+        | Event::Respond
+        | Event::Release(_, _)
+        | Event::Lost(_)
+        | Event::Late => 5,
     }
 }
 
@@ -102,10 +101,9 @@ fn stepped(side: Side, event: Event, bytes: &[u8], store: &[u8]) -> Side
     let mut out = [0u8; 1032];
     let step = step_of(side, event, bytes, store, &mut out);
     told(step, bytes, &out);
-    let connection = step.connection;
     Side {
         own: side.own,
-        connection,
+        connection: step.connection,
     }
 }
 
@@ -113,8 +111,7 @@ fn brought(side: Side, event: Event, text: &[u8], store: &[u8]) -> Side
     ensures { result ≡ broughtBy event text.now store.now side }
 {
     let mut bytes = [0u8; LINE_BYTES];
-    let w = word(text, bytes_at(event));
-    let n = decode(w, &mut bytes);
+    let n = decode(word(text, bytes_at(event)), &mut bytes);
     stepped(side, event, &bytes[..n], store)
 }
 
@@ -130,14 +127,13 @@ fn asked(side: Side, what: Asked, text: &[u8], store: &[u8]) -> Side
     }
 }
 
-// What a line asks of connection b, or of a.
-pub fn obey(mut sides: Sides, second: bool, what: Asked, text: &[u8], store: &[u8]) -> Sides
-    ensures { result ≡ sides_by second what text.now store.now sides }
+// What a line asks of the connection of this name.
+pub fn obey(mut sides: Sides, name: Name, what: Asked, text: &[u8], store: &[u8]) -> Sides
+    ensures { result ≡ sides_by name what text.now store.now sides }
 {
-    if second {
-        sides.b = asked(sides.b, what, text, store);
-        return sides;
+    match name {
+        Name::A => sides.a = asked(sides.a, what, text, store),
+        Name::B => sides.b = asked(sides.b, what, text, store),
     }
-    sides.a = asked(sides.a, what, text, store);
     sides
 }

@@ -1,13 +1,12 @@
 // Session keys, and units built and checked with them.
-ghost use Rattle.std.specs.Prelude.{◌≡◌, true, length};
+ghost use Rattle.std.specs.Prelude.{◌≡◌, true, [], MatchOption};
 ghost use Rattle.runs.specs.Alike.{is_sound};
-ghost use Rattle.authentication.specs.Keys.{derived};
-ghost use Rattle.console.specs.Units.{held_kmac, sound_kmac, keyed_by, keys_by, three_bytes};
+ghost use Rattle.console.specs.Units.{held_kmac, sound_kmac, keys_by, three_bytes};
 
-use crate::answers::{front, named, refused};
-use crate::text::{LINE_BYTES, line};
-use authentication::{Built, Checked, Derived};
+use crate::answers::{front, refused};
+use crate::text::{LINE_BYTES, line, named};
 use lines::digits::decode;
+use lines::orders::Route;
 use lines::words::word;
 use records::is_held;
 use store::field::number_at;
@@ -15,115 +14,93 @@ use store::{KEYS_AT, KMAC, RECORD};
 
 // ---- session keys
 
-// Takes the three keys.
-fn keep(keys: &mut [u8], key: [u8; 24])
-    requires { length keys.old ≡ 24 }
-    ensures { keys.new ≡ key }
+// The session keys of a KMAC; those before where they are refused.
+fn derive(held: Option<[u8; 24]>, kmac: &[u8], ra: u64, rb: u64) -> Option<[u8; 24]>
+    ensures { result ≡ keys_by kmac.now ra rb held }
 {
-    octets::copy(keys, 0, &key, 0, 24);
-}
-
-// Derives session keys of a KMAC, and answers whether session keys are held then.
-fn derive(held: bool, kmac: &[u8], ra: u64, rb: u64, keys: &mut [u8]) -> bool
-    requires { length keys.old ≡ 24 }
-    ensures { (result ≡ keyed_by (derived kmac.now) held) × (keys.new ≡ keys_by kmac.now ra rb keys.old) }
-{
-    let derived = authentication::session_keys(kmac, des::store(ra), des::store(rb));
-    let answer = derived.answer;
-    match answer {
-        Derived::Made => {
-            let key = derived.key;
-            keep(keys, key);
-            line(b"session keys held");
-            true
+    match authentication::session_keys(kmac, des::store(ra), des::store(rb)) {
+        Ok(keys) => {
+            line("session keys held");
+            Some(keys)
         }
-        Derived::Refused(h) => {
+        Err(h) => {
             refused(h);
             held
         }
     }
 }
 
-// The KMAC at a place of a sound store, the first being 1; empty where it holds no record.
-fn kmac_at(s: &[u8], place: usize) -> &[u8]
+// The KMAC at a place of a sound store, the first being 1.
+// Nothing at a place without a record, of which `store::kmac_at` asks that it is none.
+fn kmac_at(s: &[u8], place: usize) -> Option<&[u8]>
     requires { is_sound s.now ≡ true }
-    ensures { result.now ≡ held_kmac s.now place }
+    ensures { MatchOption result (held_kmac s.now place ≡ []) (λ kmac. kmac.now ≡ held_kmac s.now place) }
 {
-    if place == 0 {
-        return &s[..0];
-    }
-    if number_at(s, 2) < place {
-        return &s[..0];
+    if place == 0 || place > number_at(s, 2) {
+        return None;
     }
     let start = KEYS_AT + RECORD * (place - 1) + 8;
     let end = start + KMAC;
-    &s[start..end]
+    Some(&s[start..end])
 }
 
-// Session keys of the record at a place of the store, and whether session keys are held then.
-pub fn hold(held: bool, s: &[u8], place: usize, ra: u64, rb: u64, keys: &mut [u8]) -> bool
-    requires { length keys.old ≡ 24 }
-    ensures { (result ≡ keyed_by (derived (sound_kmac s.now place)) held) × (keys.new ≡ keys_by (sound_kmac s.now place) ra rb keys.old) }
+// The session keys of the record at a place of the store; those before where there are none.
+pub fn hold(held: Option<[u8; 24]>, s: &[u8], place: usize, ra: u64, rb: u64) -> Option<[u8; 24]>
+    ensures { result ≡ keys_by (sound_kmac s.now place) ra rb held }
 {
     if !is_held(s) {
-        line(b"store unsound");
+        line("store unsound");
         return held;
     }
-    let kmac = kmac_at(s, place);
-    if kmac.len() == 0 {
-        line(b"no record at this place");
+    let Some(kmac) = kmac_at(s, place) else {
+        line("no record at this place");
         return held;
-    }
-    derive(held, kmac, ra, rb, keys)
+    };
+    derive(held, kmac, ra, rb)
 }
 
 // ---- units
 
 // A destination as its bytes.
+// As etcs_id of `units`, on which the console does not rest.
 fn three(x: u32) -> [u8; 3]
     ensures { result ≡ three_bytes x }
 {
-    [
-        (x / 65536 % 256) as u8,
-        (x / 256 % 256) as u8,
-        (x % 256) as u8,
-    ]
+    let [_, a, b, c] = x.to_be_bytes();
+    [a, b, c]
 }
 
 // The user data stand in hex in word 3.
-pub fn build(held: bool, text: &[u8], keys: &[u8], destination: u32, direction: bool) {
-    if !held {
-        line(b"no session keys held");
+pub fn build(held: Option<[u8; 24]>, text: &[u8], route: Route) {
+    let Some(keys) = held else {
+        line("no session keys held");
         return;
-    }
+    };
     let mut bytes = [0u8; LINE_BYTES];
-    let w = word(text, 3);
-    let n = decode(w, &mut bytes);
+    let n = decode(word(text, 3), &mut bytes);
+    let destination = three(route.destination);
     let mut out = [0u8; 1032];
-    match authentication::build(keys, three(destination), direction, &bytes[..n], &mut out) {
-        Built::Written(k) => named(b"unit ", front(&out, k)),
-        Built::Refused(h) => refused(h),
-    }
-}
-
-fn checked(unit: &[u8], keys: &[u8], destination: [u8; 3], direction: bool) {
-    match authentication::check(unit, keys, destination, direction) {
-        Checked::Accepted(_) => named(
-            b"accepted ",
-            authentication::user_data(unit, keys, destination, direction),
-        ),
-        Checked::Refused(h) => refused(h),
+    match authentication::build(&keys, destination, route.direction, &bytes[..n], &mut out) {
+        Ok(k) => named("unit ", front(&out, k)),
+        Err(h) => refused(h),
     }
 }
 
 // The unit stands in hex in word 3.
-pub fn check(held: bool, text: &[u8], keys: &[u8], destination: u32, direction: bool) {
-    if !held {
-        line(b"no session keys held");
+pub fn check(held: Option<[u8; 24]>, text: &[u8], route: Route) {
+    let Some(keys) = held else {
+        line("no session keys held");
         return;
-    }
+    };
     let mut bytes = [0u8; LINE_BYTES];
-    let w = word(text, 3);
-    let n = decode(w, &mut bytes);
-    checked(&bytes[..n], keys, three(destination), direction);
+    let n = decode(word(text, 3), &mut bytes);
+    let unit = &bytes[..n];
+    let destination = three(route.destination);
+    match authentication::check(unit, &keys, destination, route.direction) {
+        Ok(_) => named(
+            "accepted ",
+            authentication::user_data(unit, &keys, destination, route.direction),
+        ),
+        Err(h) => refused(h),
+    }
 }

@@ -1,15 +1,14 @@
 // The store: searched, taken, emptied and converted. The bench has room for a store of either edition, at the front of its buffer.
-ghost use Rattle.std.specs.Prelude.{◌≡◌, ◌≤◌, not, length};
+ghost use Rattle.std.specs.Prelude.{◌≡◌, ◌≤◌, not};
 ghost use Rattle.convert.specs.Convert.{Converts};
 ghost use Rattle.console.specs.Bench.{limits_of, size_of, store_of, store_in, large_in, empty_of, conversion, large_then, store_then};
 
 use crate::answers::{place, refused};
-use crate::text::{LINE_BYTES, line, text};
-use convert::Converted;
+use crate::text::{LINE_BYTES, line};
 use lines::digits::decode;
 use lines::words::word;
+use refusal::Refusal;
 use store::editions::{LENGTH_1, LENGTH_2, edition_of};
-use store::{Edition, Found};
 
 // The length of the store that is held.
 pub fn size(large: bool) -> usize
@@ -19,8 +18,7 @@ pub fn size(large: bool) -> usize
 }
 
 // The store that is held.
-pub fn store_of(large: bool, store: &[u8]) -> &[u8]
-    requires { length store.now ≡ 38012 }
+pub fn store_of(large: bool, store: &[u8; LENGTH_2]) -> &[u8]
     ensures { result.now ≡ store_of large store.now }
 {
     let n = size(large);
@@ -29,70 +27,62 @@ pub fn store_of(large: bool, store: &[u8]) -> &[u8]
 
 pub fn search(store: &[u8], peer: u32, t: u32) {
     match store::find(store, peer, t) {
-        Found::At(n, until) => place(n, until),
-        Found::Refused(h) => refused(h),
+        Ok(found) => place(found.place, found.end),
+        Err(h) => refused(h),
     }
 }
 
 // Takes the bytes of word 1 for the store, sound or not, where an edition has their length. Answers whether edition 2 is held then.
-pub fn take(large: bool, text: &[u8], store: &mut [u8]) -> bool
-    requires { length store.old ≡ 38012 }
+pub fn take(large: bool, text: &[u8], store: &mut [u8; LENGTH_2]) -> bool
     ensures { (result ≡ large_in text.now large) × (store_of result store.new ≡ store_in text.now (store_of large store.old)) }
 {
     let mut bytes = [0u8; LINE_BYTES];
-    let w = word(text, 1);
-    let n = decode(w, &mut bytes);
+    let n = decode(word(text, 1), &mut bytes);
     match edition_of(n) {
-        Edition::Known(_) => {
-            octets::copy(store, 0, &bytes, 0, n);
-            line(b"store taken");
+        Some(_) => {
+            store[..n].copy_from_slice(&bytes[..n]);
+            line("store taken");
             n == LENGTH_2
         }
-        Edition::Unknown => {
-            line(b"store not taken: expected 3852 or 38012 bytes");
+        None => {
+            line("store not taken: expected 3852 or 38012 bytes");
             large
         }
     }
 }
 
 // Makes the store that is held the empty one of its edition.
-pub fn clear(large: bool, store: &mut [u8])
-    requires { length store.old ≡ 38012 }
+pub fn clear(large: bool, store: &mut [u8; LENGTH_2])
     ensures { store_of large store.new ≡ empty_of large }
 {
     let n = size(large);
-    store::empty(&mut store[..n]);
+    // Nothing is refused: n is the length of an edition.
+    let _ = store::empty(&mut store[..n]);
 }
 
-pub fn empty(large: bool, store: &mut [u8])
-    requires { length store.old ≡ 38012 }
+pub fn empty(large: bool, store: &mut [u8; LENGTH_2])
     ensures { store_of large store.new ≡ empty_of large }
 {
     clear(large, store);
-    line(b"store empty");
+    line("store empty");
 }
 
 // What was done to the store, and the edition that is held.
-fn said(done: &[u8], large: bool) {
-    text(done);
-    if large {
-        line(b", edition 2");
-    } else {
-        line(b", edition 1");
-    }
+fn said(done: &str, large: bool) {
+    let edition = if large { 2 } else { 1 };
+    line(format_args!("{done}, edition {edition}"));
 }
 
 // Makes the empty store of the edition that is chosen.
-pub fn choose(large: bool, store: &mut [u8])
-    requires { length store.old ≡ 38012 }
+pub fn choose(large: bool, store: &mut [u8; LENGTH_2])
     ensures { store_of large store.new ≡ empty_of large }
 {
     clear(large, store);
-    said(b"store empty", large);
+    said("store empty", large);
 }
 
 // Makes a store of an edition one of the other.
-fn convert_from(large: bool, from: &[u8], to: &mut [u8]) -> Converted
+fn convert_from(large: bool, from: &[u8], to: &mut [u8]) -> Result<(), Refusal>
     ensures { Converts (limits_of large) (limits_of (not large)) from.now to.old to.new result }
 {
     if large {
@@ -103,26 +93,24 @@ fn convert_from(large: bool, from: &[u8], to: &mut [u8]) -> Converted
 }
 
 // Makes the store that is held one of the other edition, which is made in a second buffer. Answers whether edition 2 is held then.
-fn convert_in(large: bool, store: &mut [u8], made: &mut [u8]) -> bool
-    requires { (length store.old ≡ 38012) × (length made.old ≡ 38012) }
+fn convert_in(large: bool, store: &mut [u8; LENGTH_2], made: &mut [u8; LENGTH_2]) -> bool
     ensures { (result ≡ large_then (conversion large (store_of large store.old)) large) × (store_of result store.new ≡ store_then large (store_of large store.old)) }
 {
     let n = size(!large);
     match convert_from(large, store_of(large, store), &mut made[..n]) {
-        Converted::Done => {
-            octets::copy(store, 0, made, 0, n);
-            said(b"store converted", !large);
+        Ok(()) => {
+            store[..n].copy_from_slice(&made[..n]);
+            said("store converted", !large);
             !large
         }
-        Converted::Refused(h) => {
+        Err(h) => {
             refused(h);
             large
         }
     }
 }
 
-pub fn convert(large: bool, store: &mut [u8]) -> bool
-    requires { length store.old ≡ 38012 }
+pub fn convert(large: bool, store: &mut [u8; LENGTH_2]) -> bool
     ensures { (result ≡ large_then (conversion large (store_of large store.old)) large) × (store_of result store.new ≡ store_then large (store_of large store.old)) }
 {
     let mut made = [0u8; LENGTH_2];

@@ -20,12 +20,12 @@ use Rattle.store.specs.Layout.{total, peers_at}
 use Rattle.store.specs.Store.{Entry, header, key_records, peers_of, encode, entries, counts_ok, sound, key_count, peer_count}
 use Rattle.store.specs.WellFormed.{WellFormed}
 use Rattle.store.specs.declared.Limits.{Limits}
-use Rattle.store.proofs.SoundLaws.{Sound, sound-says}
+use Rattle.store.proofs.SoundLaws.{Sound, sound_says}
 use Rattle.store.proofs.DecodeLaws.{entries-length, peers-length, encode-entries}
 use Rattle.store.proofs.EncodingLaws.{fitting-long, header-length, key_records-length}
 use Rattle.store.proofs.WellFormedLaws.{sound-well_formed}
 use Rattle.convert.specs.Convert.{has_room, answered, converted, Converts}
-use Rattle.convert.specs.declared.Converted.TheVariants as ConvertedAs
+use Rattle.std.specs.Prelude.{Ok, Err}
 
 -- ---- room
 
@@ -48,7 +48,7 @@ room-holds L es h k = rw (le-leb (length es) L.keys h, le-leb (length (peers_of 
 pub counts_decide : (F T : Limits) (from : List ℕ) → sound F from ≡ true → counts_ok T from ≡ has_room T (entries F from)
 unfolding counts_ok has_room
 counts_decide F T from h =
-    ap₂ (λ (n m : ℕ). leb n T.keys && leb m T.peers) (sym (entries-length F from)) (sym (peers-length F from (sound-says F from h)))
+    ap₂ (λ (n m : ℕ). leb n T.keys && leb m T.peers) (sym (entries-length F from)) (sym (peers-length F from (sound_says F from h)))
 
 -- ---- the bytes
 
@@ -56,12 +56,12 @@ counts_decide F T from h =
 module _ (F T : Limits) (from t : List ℕ) (h : sound F from ≡ true) (d : has_room T (entries F from) ≡ true) (long : length t ≡ total T) where
   pub records_lie : (n : ℕ) → n ≡ key_count from → (12 + 44 * n ≤ length t) × (12 + 44 * n ≤ length from)
   records_lie n e =
-      let w : Sound F from = sound-says F from h in
+      let w : Sound F from = sound_says F from h in
       (omega (arith, (room_says T (entries F from) d).keys_fit, entries-length F from), omega (arith, w.size, w.keys_fit))
 
   pub peers_lie : (m : ℕ) → m ≡ peer_count from → (peers_at T + 4 * m ≤ length t) × (peers_at F + 4 * m ≤ length from)
   peers_lie m e =
-      let w : Sound F from = sound-says F from h in
+      let w : Sound F from = sound_says F from h in
       (omega (arith, (room_says T (entries F from) d).peers_fit, peers-length F from w), omega (arith, w.size, w.peers_fit))
 
 header-put : (L : Limits) (n m : ℕ) (r : List ℕ) → splice (splice (header L 0 0 ++ r) 2 (be16 n)) 6 (be16 m) ≡ header L n m ++ r
@@ -138,7 +138,7 @@ module _ (F T : Limits) (from : List ℕ) (bytes : Bytes from) (h : sound F from
 
   m-is : length ps ≡ peer_count from
   unfolding ps
-  m-is = peers-length F from (sound-says F from h)
+  m-is = peers-length F from (sound_says F from h)
 
   pub copied : (n m : ℕ) (t0 t1 t2 t3 t4 : List ℕ) → n ≡ key_count from → m ≡ peer_count from
       → t0 ≡ encode T []
@@ -176,25 +176,25 @@ module _ (F T : Limits) (from : List ℕ) (bytes : Bytes from) (h : sound F from
 -- ---- the answer
 
 module _ (F T : Limits) (from to : List ℕ) where
-  pub wrong_source : eqb (length from) (total F) ≡ false → Converts F T from to to (ConvertedAs.Refused StoreLength)
+  pub wrong_source : eqb (length from) (total F) ≡ false → Converts F T from to to (Err StoreLength)
   unfolding answered converted
   wrong_source a = record { answer = rw a; target = rw a }
 
   module _ (a : eqb (length from) (total F) ≡ true) where
-    pub wrong_target : eqb (length to) (total T) ≡ false → Converts F T from to to (ConvertedAs.Refused StoreLength)
+    pub wrong_target : eqb (length to) (total T) ≡ false → Converts F T from to to (Err StoreLength)
     unfolding answered converted
     wrong_target b = record { answer = rw (a, b); target = rw (a, b) }
 
     module _ (b : eqb (length to) (total T) ≡ true) where
-      pub unsound : sound F from ≡ false → Converts F T from to to (ConvertedAs.Refused StoreUnsound)
+      pub unsound : sound F from ≡ false → Converts F T from to to (Err StoreUnsound)
       unfolding answered converted
       unsound c = record { answer = rw (a, b, c); target = rw (a, b, c) }
 
       module _ (c : sound F from ≡ true) where
-        pub no_room : has_room T (entries F from) ≡ false → Converts F T from to to (ConvertedAs.Refused NoRoom)
+        pub no_room : has_room T (entries F from) ≡ false → Converts F T from to to (Err NoRoom)
         unfolding answered converted
         no_room d = record { answer = rw (a, b, c, d); target = rw (a, b, c, d) }
 
-        pub done : has_room T (entries F from) ≡ true → (to' : List ℕ) → to' ≡ encode T (entries F from) → Converts F T from to to' ConvertedAs.Done
+        pub done : has_room T (entries F from) ≡ true → (to' : List ℕ) → to' ≡ encode T (entries F from) → Converts F T from to to' (Ok tt)
         unfolding answered converted
         done d to' e = record { answer = rw (a, b, c, d); target = rw (a, b, c, d) e }

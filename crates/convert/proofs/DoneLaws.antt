@@ -7,6 +7,7 @@ use Prim.Native.Nat.{ℕ, ◌-◌}
 use lib.ListN.{length, get_or}
 use lib.Dec.{eqb}
 use borrow.Author.Tests.{eqb-true, eq-eqb}
+use Rattle.std.specs.Prelude.{Some}
 use Rattle.octets.specs.Bytes.{Bytes}
 use Rattle.refusal.specs.House.{Answer, gives, asks, unless_refused}
 use Rattle.refusal.proofs.Laws.{asks-gives}
@@ -14,13 +15,12 @@ use Rattle.store.specs.Layout.{total, Bounded, edition_of}
 use Rattle.store.specs.Store.{Entry, encode, entries, sound}
 use Rattle.store.specs.Search.{Finding, found, unfound, placed, chosen, find, key}
 use Rattle.store.specs.WellFormed.{WellFormed, nobody}
-use Rattle.store.specs.declared.Edition.TheVariants.{Known}
 use Rattle.store.specs.declared.Limits.{Limits}
-use Rattle.store.proofs.SoundLaws.{sound-says}
+use Rattle.store.proofs.SoundLaws.{sound_says}
 use Rattle.store.proofs.DecodeLaws.{encode-entries}
 use Rattle.store.proofs.EncodeLaws.{entries-encode, encode-sound}
 use Rattle.store.proofs.WellFormedLaws.{sound-well_formed}
-use Rattle.store.proofs.SearchLaws.{key-none}
+use Rattle.store.proofs.SearchLaws.{key_none}
 use Rattle.store.proofs.FindLaws.{in_sound, found-taken}
 use Rattle.convert.specs.Convert.{has_room, answered, converted}
 use Rattle.convert.specs.Claims.{Returns, SameFound}
@@ -85,7 +85,7 @@ module _ (F T : Limits) (from to : List ℕ) (bounded : Bounded T) (bytes : Byte
   same = ap (entries T) went.made ∙ entries-encode T (entries F from) bounded new
 
   made-long : length (converted F T from to) ≡ total T
-  made-long = (sound-says T (converted F T from to) made_sound).size
+  made-long = (sound_says T (converted F T from to) made_sound).size
 
   -- ---- and back
 
@@ -99,11 +99,11 @@ module _ (F T : Limits) (from to : List ℕ) (bounded : Bounded T) (bytes : Byte
 
   -- ---- searches
 
-  module _ (of_source : edition_of (total F) ≡ Known F) (of_target : edition_of (total T) ≡ Known T) (peer t : ℕ) where
-    source_known : edition_of (length from) ≡ Known F
+  module _ (of_source : edition_of (total F) ≡ Some F) (of_target : edition_of (total T) ≡ Some T) (peer t : ℕ) where
+    source_known : edition_of (length from) ≡ Some F
     source_known = ap edition_of went.from_long ∙ of_source
 
-    target-known : edition_of (length (converted F T from to)) ≡ Known T
+    target-known : edition_of (length (converted F T from to)) ≡ Some T
     target-known = ap edition_of made-long ∙ of_target
 
     same-find : find (converted F T from to) peer t ≡ find from peer t
@@ -120,7 +120,7 @@ module _ (F T : Limits) (from to : List ℕ) (bounded : Bounded T) (bytes : Byte
             (found-taken T (converted F T from to) peer t target-known p until (same-find ∙ q)).its_kmac
             ∙ ap (λ (es : List Entry). (get_or es (p - 1) nobody).kmac) same
             ∙ sym (found-taken F from peer t source_known p until q).its_kmac
-        go (unfound n) q = key-none (converted F T from to) peer t n (same-find ∙ q) ∙ sym (key-none from peer t n q)
+        go (unfound n) q = key_none (converted F T from to) peer t n (same-find ∙ q) ∙ sym (key_none from peer t n q)
 
-  pub same-found : edition_of (total F) ≡ Known F → edition_of (total T) ≡ Known T → SameFound (converted F T from to) from
+  pub same-found : edition_of (total F) ≡ Some F → edition_of (total T) ≡ Some T → SameFound (converted F T from to) from
   same-found p q peer t = (same-find p q peer t, same_found_key p q peer t)

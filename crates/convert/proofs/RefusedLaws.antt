@@ -15,7 +15,7 @@ use Rattle.refusal.proofs.Laws.{asks-house, not-both}
 use Rattle.store.specs.Layout.{total, edition1}
 use Rattle.store.specs.Store.{Entry, peers_of, entries, sound}
 use Rattle.store.specs.declared.Limits.{Limits}
-use Rattle.store.proofs.SoundLaws.{sound-says}
+use Rattle.store.proofs.SoundLaws.{sound_says}
 use Rattle.convert.specs.Convert.{has_room, answered}
 use Rattle.convert.specs.Claims.{TooMany}
 
@@ -43,7 +43,7 @@ module _ (F T : Limits) (from to : List ℕ) where
     other_header h = go (sound F from) refl
       where
         go : (x : Bool) → sound F from ≡ x → answered F T from to ≡ house 12
-        go true c = absurd (h (sound-says F from c).edition_is)
+        go true c = absurd (h (sound_says F from c).edition_is)
         go false c = is-unsound c
 
     pub is-full : sound F from ≡ true → has_room T (entries F from) ≡ false → answered F T from to ≡ house 14

@@ -7,36 +7,34 @@ use mathlib.Core.Logic.{◌⊎◌, inl, inr}
 use Prim.Native.Nat.{ℕ, ◌≤◌}
 use native.Mathlib.Omega.{arith}
 use lib.ListN.{length}
-use Rattle.refusal.specs.House.{Answer, house, gives, unless_refused, house_number}
-use Rattle.refusal.proofs.Laws.{one_number, house-number, not-both}
+use Rattle.std.specs.Prelude.{Some}
+use Rattle.refusal.specs.House.{Answer, house, gives, unless_refused}
+use Rattle.refusal.proofs.Laws.{answer-one, not-both}
 use Rattle.store.specs.Layout.{total, Bounded, edition1, edition2, edition_of, edition_in}
 use Rattle.store.specs.Store.{encode, entries, sound, peers_of}
-use Rattle.store.specs.declared.Edition.TheVariants.{Known}
 use Rattle.store.specs.declared.Limits.{Limits}
-use Rattle.store.proofs.SoundLaws.{Sound, sound-says}
+use Rattle.store.proofs.SoundLaws.{Sound, sound_says}
 use Rattle.store.proofs.DecodeLaws.{entries-length, peers-length}
-use Rattle.store.proofs.SearchLaws.{edition_of-says}
-use Rattle.convert.specs.Convert.{answered, converted, converted_as}
+use Rattle.store.proofs.SearchLaws.{edition_says}
+use Rattle.convert.specs.Convert.{answered, converted}
 use Rattle.convert.specs.Claims.{SameEntries, ThereAndBack, ForwardAlways, TargetNotJudged, RefusedWritesNothing, LengthExactly, UnsoundExactly, TooMany, NoRoomExactly, SameSearch, OneAnswer}
-use Rattle.convert.specs.declared.Converted.{Converted}
-use Rattle.convert.specs.declared.Converted.TheVariants as ConvertedAs
 use Rattle.convert.proofs.ConvertLaws.{room-holds}
 use Rattle.convert.proofs.DoneLaws.{is-done, same_answer, same_target, made_sound, same, returns, same-found}
 use Rattle.convert.proofs.RefusedLaws.{of_source, of_target, is-unsound, other_header, is-full, Why, source_length, target-length, unsound, full, why, too_many, room-none}
 
-known1 : edition_of (total edition1) ≡ Known edition1
+known1 : edition_of (total edition1) ≡ Some edition1
 unfolding edition_of edition_in
 known1 = refl
 
-known2 : edition_of (total edition2) ≡ Known edition2
+known2 : edition_of (total edition2) ≡ Some edition2
 unfolding edition_of edition_in
 known2 = refl
 
 bounded1 : Bounded edition1
-bounded1 = (edition_of-says (total edition1) edition1 known1).0
+bounded1 = (edition_says (total edition1) edition1 known1).0
 
 bounded2 : Bounded edition2
-bounded2 = (edition_of-says (total edition2) edition2 known2).0
+bounded2 = (edition_says (total edition2) edition2 known2).0
 
 -- ---- done
 
@@ -45,7 +43,7 @@ same_entries = record { made_sound = made_sound; same = same }
 
 forward : (from to : List ℕ) → sound edition1 from ≡ true → length to ≡ total edition2 → answered edition1 edition2 from to ≡ gives 0
 forward from to s l =
-    let w : Sound edition1 from = sound-says edition1 from s in
+    let w : Sound edition1 from = sound_says edition1 from s in
     let n : length (entries edition1 from) ≤ 500 = omega (arith, w.keys_fit, entries-length edition1 from) in
     let m : length (peers_of (entries edition1 from)) ≤ 4000 = omega (arith, w.peers_fit, peers-length edition1 from w) in
     is-done edition1 edition2 from to w.size l s (room-holds edition2 (entries edition1 from) n m)
@@ -97,9 +95,9 @@ unsound-exactly = record { refused = is-unsound; only = λ F T from to e. only F
 pub no-room-exactly : NoRoomExactly
 no-room-exactly =
     record {
-      refused = λ from to l s m. is-full edition2 edition1 from to (sound-says edition2 from s).size l s (room-none (entries edition2 from) m);
+      refused = λ from to l s m. is-full edition2 edition1 from to (sound_says edition2 from s).size l s (room-none (entries edition2 from) m);
       only = λ from to e. only from to (why edition2 edition1 from to 14 e);
-      done = λ from to l s n m. is-done edition2 edition1 from to (sound-says edition2 from s).size l s (room-holds edition1 (entries edition2 from) n m);
+      done = λ from to l s n m. is-done edition2 edition1 from to (sound_says edition2 from s).size l s (room-holds edition1 (entries edition2 from) n m);
       never_forward = λ from to e. forwards from to e (why edition1 edition2 from to 14 e);
     }
   where
@@ -118,10 +116,4 @@ no-room-exactly =
 -- ---- answers
 
 pub one_answer : OneAnswer
-one_answer = record { of_conversion = one }
-  where
-    one : (a b : Converted) → converted_as a ≡ converted_as b → a ≡ b
-    one ConvertedAs.Done ConvertedAs.Done e = refl
-    one ConvertedAs.Done (ConvertedAs.Refused h) e = not-both (house_number h) 0 (sym e)
-    one (ConvertedAs.Refused g) ConvertedAs.Done e = not-both (house_number g) 0 e
-    one (ConvertedAs.Refused g) (ConvertedAs.Refused h) e = ap ConvertedAs.Refused (one_number g h (house-number (house_number g) (house_number h) e))
+one_answer = record { of_conversion = λ a b e. answer-one (λ done. 0) (λ d f p. refl) a b e }

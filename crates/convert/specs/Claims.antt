@@ -1,6 +1,6 @@
 -- What is claimed of the conversion beside the contracts. proofs/Theorems.antt has a proof of each claim.
 -- Assumes nothing.
-use Rattle.std.specs.Prelude.{◌≡◌, true, false, List, ◌⊎◌, ℕ, ◌≤◌, ◌<◌, length}
+use Rattle.std.specs.Prelude.{◌≡◌, true, false, List, ◌⊎◌, ℕ, ◌≤◌, ◌<◌, length, ⊤, Result}
 use Rattle.octets.specs.Bytes.{Bytes, get16}
 use Rattle.refusal.specs.House.{house, gives}
 use Rattle.store.specs.Layout.{total, Bounded, edition1, edition2}
@@ -8,7 +8,7 @@ use Rattle.store.specs.Store.{Entry, peers_of, entries, sound}
 use Rattle.store.specs.Search.{find, key}
 use Rattle.store.specs.declared.Limits.{Limits}
 use Rattle.convert.specs.Convert.{answered, converted, converted_as}
-use Rattle.convert.specs.declared.Converted.{Converted}
+use Rattle.refusal.specs.declared.Refusal.{Refusal}
 
 -- the target is sound in its edition and has the same entries in the same order
 pub record SameEntries : Type 0 where
@@ -79,4 +79,4 @@ pub record SameSearch : Type 0 where
 
 -- the paper's numbers are those of one answer only: a contract that fixes them fixes the answer
 pub record OneAnswer : Type 0 where
-  pub of_conversion : (a b : Converted) → converted_as a ≡ converted_as b → a ≡ b
+  pub of_conversion : (a b : Result ⊤ Refusal) → converted_as a ≡ converted_as b → a ≡ b

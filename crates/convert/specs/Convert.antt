@@ -1,13 +1,12 @@
 -- A store of one edition made one of another (change request 6). One definition serves both directions: F are the limits of the source's edition, T those of
 -- the target's.
 -- Assumes nothing.
-use Rattle.std.specs.Prelude.{◌≡◌, Bool, ◌&&◌, List, ℕ, length, eqb, leb}
-use Rattle.refusal.specs.House.{Answer, house, gives, asks, unless_refused, house_number}
+use Rattle.std.specs.Prelude.{◌≡◌, Bool, ◌&&◌, List, ℕ, length, eqb, leb, ⊤, Result}
+use Rattle.refusal.specs.House.{Answer, gives, answer_as, asks, unless_refused}
+use Rattle.refusal.specs.declared.Refusal.{Refusal}
 use Rattle.store.specs.Layout.{total}
 use Rattle.store.specs.Store.{Entry, peers_of, encode, entries, sound}
 use Rattle.store.specs.declared.Limits.{Limits}
-use Rattle.convert.specs.declared.Converted.{Converted}
-use Rattle.convert.specs.declared.Converted.TheVariants as ConvertedAs
 
 -- an edition has room for these entries
 unfoldable pub has_room : Limits → List Entry → Bool
@@ -25,11 +24,10 @@ answered F T from to =
 unfoldable pub converted : Limits → Limits → List ℕ → List ℕ → List ℕ
 converted F T from to = unless_refused (answered F T from to) (encode T (entries F from)) to
 
-abbrev pub converted_as : Converted → Answer
-converted_as ConvertedAs.Done = gives 0
-converted_as (ConvertedAs.Refused h) = house (house_number h)
+abbrev pub converted_as : Result ⊤ Refusal → Answer
+converted_as r = answer_as (λ done. 0) r
 
 -- what is promised of a call: its answer, and the target to' that it leaves
-pub record Converts (F T : Limits) (from to to' : List ℕ) (r : Converted) : Type 0 where
+pub record Converts (F T : Limits) (from to to' : List ℕ) (r : Result ⊤ Refusal) : Type 0 where
   pub answer : converted_as r ≡ answered F T from to
   pub target : to' ≡ converted F T from to

@@ -13,21 +13,12 @@ use store::field::{number_at, put_number};
 use store::sound::{counts_ok, is_sound};
 use store::{KEYS_AT, Limits, PEER, RECORD, write_empty};
 
-// What the two calls answer.
-#[derive(Clone, Copy)]
-pub enum Converted {
-    Done,
-    Refused(Refusal),
-}
-
 // Whether a buffer has the length of an edition's stores.
 fn has_length(s: &[u8], lim: Limits) -> bool
     requires { Bounded lim }
     ensures { result ≡ eqb (length s.now) (total lim) }
 {
-    let keys = lim.keys;
-    let peers = lim.peers;
-    s.len() == KEYS_AT + RECORD * keys + PEER * peers
+    s.len() == KEYS_AT + RECORD * lim.keys + PEER * lim.peers
 }
 
 // Writes the entries of a sound store as a store of the target's edition. A first peer index is the same in both, so records and peers are copied as they stand.
@@ -49,35 +40,35 @@ fn write(from: &[u8], source: Limits, to: &mut [u8], target: Limits)
 }
 
 // Makes a store of the source's edition one of the target's.
-fn convert(from: &[u8], source: Limits, to: &mut [u8], target: Limits) -> Converted
+fn convert(from: &[u8], source: Limits, to: &mut [u8], target: Limits) -> Result<(), Refusal>
     requires { (Bounded source) × (Bounded target) }
     ensures { Converts source target from.now to.old to.new result }
 {
     if !has_length(from, source) {
-        return Converted::Refused(Refusal::StoreLength);
+        return Err(Refusal::StoreLength);
     }
     if !has_length(to, target) {
-        return Converted::Refused(Refusal::StoreLength);
+        return Err(Refusal::StoreLength);
     }
     if !is_sound(from, source) {
-        return Converted::Refused(Refusal::StoreUnsound);
+        return Err(Refusal::StoreUnsound);
     }
     if !counts_ok(from, target) {
-        return Converted::Refused(Refusal::NoRoom);
+        return Err(Refusal::NoRoom);
     }
     write(from, source, to, target);
-    Converted::Done
+    Ok(())
 }
 
 // Makes a store of edition 1 one of edition 2, with the same entries in the same order. Refuses H1, H12.
-pub fn to_edition2(from: &[u8], to: &mut [u8]) -> Converted
+pub fn to_edition2(from: &[u8], to: &mut [u8]) -> Result<(), Refusal>
     ensures { Converts edition1 edition2 from.now to.old to.new result }
 {
     convert(from, EDITION_1, to, EDITION_2)
 }
 
 // The same from edition 2 to edition 1. Refuses H1, H12, and H14 where its keys or peers have no room there.
-pub fn to_edition1(from: &[u8], to: &mut [u8]) -> Converted
+pub fn to_edition1(from: &[u8], to: &mut [u8]) -> Result<(), Refusal>
     ensures { Converts edition2 edition1 from.now to.old to.new result }
 {
     convert(from, EDITION_2, to, EDITION_1)

@@ -3,26 +3,26 @@
 use mathlib.Core.Path.{◌≡◌, refl, sym, ap, ap₂, ◌∙◌}
 use mathlib.Core.Bool.{Bool, true, false, ◌&&◌, cond}
 use mathlib.Core.List.{List, [], ◌∷◌}
+use Rattle.std.proofs.Common.{Some, None}
 use Prim.Native.Nat.{ℕ, suc, ◌+◌, ◌-◌, ◌≤◌, ◌<◌}
 use native.Mathlib.Nat.{sub-zero}
 use native.Mathlib.Omega.{arith}
 use lib.ListN.{length}
 use lib.Dec.{ltb, leb}
-use borrow.Author.Tests.{lt-ltb, le-ltb, le-leb, lt-leb, leb-true}
+use borrow.Author.Tests.{lt-ltb, le-ltb, le-leb, leb-true}
 use Rattle.octets.proofs.BoolLaws.{and_left, and_right}
-use Rattle.store.specs.Store.{Entry, entries, entries_from, entry_at, key_count, peers_of, peer_count, sound, all_hold}
+use Rattle.store.specs.Store.{Entry, entries, entries_from, entry_at, key_count, peer_count, sound, all_hold}
 use Rattle.store.specs.Search.{fits}
 use Rattle.store.specs.declared.Limits.{Limits}
-use Rattle.store.specs.declared.Edition.TheVariants.{Known}
-use Rattle.store.proofs.SoundLaws.{Sound, sound-says}
+use Rattle.store.specs.Layout.{edition_of}
+use Rattle.store.proofs.SoundLaws.{Sound, sound_says}
 use Rattle.store.proofs.DecodeLaws.{entries_from-length, entries-length, peers-length}
 use Rattle.depot.specs.declared.Class.{Class}
 use Rattle.depot.specs.declared.Class.TheVariants.{Fit, Ended, Early, Reversed}
 use Rattle.depot.specs.declared.Classes.{Classes}
 use Rattle.depot.specs.declared.Tally.{Tally}
-use Rattle.depot.specs.declared.Counted.TheVariants as CountedAs
 use Rattle.depot.specs.Claims.{Within}
-use Rattle.depot.specs.Counts.{class_of, class_in, one_more, classes_of, in_all, tally_of, counts_in, rooms, largest}
+use Rattle.depot.specs.Counts.{class_of, class_in, one_more, classes_of, in_all, tally_of, counts_in, counts_of, rooms, largest, sums, sum_of}
 
 -- ---- the class of a period
 
@@ -60,10 +60,13 @@ all-counted t (e ∷ es) = all_more (class_in t e) (classes_of t es) ∙ ap suc 
 
 -- ---- the loop from behind
 
+none_yet : (c : Classes) → c.fit ≡ 0 → c.ended ≡ 0 → c.early ≡ 0 → c.reversed ≡ 0 → c ≡ record { fit = 0; ended = 0; early = 0; reversed = 0 }
+none_yet c e f g h = ap₂ (λ (x y : ℕ). record { fit = x; ended = y; early = c.early; reversed = c.reversed }) e f ∙ ap₂ (λ (x y : ℕ). record { fit = 0; ended = 0; early = x; reversed = y }) g h
+
 module _ (L : Limits) (s : List ℕ) (t n : ℕ) where
-  pub classes-start : ◌≡◌ {A = Classes} (record { fit = 0; ended = 0; early = 0; reversed = 0 }) (classes_of t (entries_from L s n (n - n)))
+  pub classes-start : (c : Classes) → c.fit ≡ 0 → c.ended ≡ 0 → c.early ≡ 0 → c.reversed ≡ 0 → n ≡ key_count s → c ≡ classes_of t (entries_from L s n (key_count s - n))
   unfolding classes_of entries_from
-  classes-start = let e : n - n ≡ 0 = omega arith in ap (λ (x : ℕ). classes_of t (entries_from L s n x)) (sym e)
+  classes-start c e f g h k = let z : key_count s - n ≡ 0 = omega arith in rw z (none_yet c e f g h)
 
   pub classes_turn : (i : ℕ) (c d : Classes) (k : Class) → 0 < i → i ≤ n → c ≡ classes_of t (entries_from L s i (n - i))
       → k ≡ class_in t (entry_at L s (i - 1)) → d ≡ one_more k c → d ≡ classes_of t (entries_from L s (i - 1) (n - (i - 1)))
@@ -87,27 +90,14 @@ module _ (L : Limits) (s : List ℕ) (t n : ℕ) where
 -- ---- the counts of a store
 
 module _ (L : Limits) (s : List ℕ) (t : ℕ) where
-  pub counts-unsound : sound L s ≡ false → CountedAs.Bad ≡ counts_in (Known L) s t
-  unfolding counts_in
-  counts-unsound h = rw h
-
-  pub counts-sound : sound L s ≡ true → (c : Classes) (n m : ℕ) → c ≡ classes_of t (entries L s) → n ≡ key_count s → m ≡ peer_count s
-      → CountedAs.Counts (record { held = n; fit = c.fit; ended = c.ended; early = c.early; reversed = c.reversed; peers = m }) ≡ counts_in (Known L) s t
-  unfolding counts_in tally_of
-  counts-sound h c n m e p q =
-      let w : Sound L s = sound-says L s h in
-      rw h
-      (ap₂ (λ (x y : ℕ). CountedAs.Counts (record { held = x; fit = c.fit; ended = c.ended; early = c.early; reversed = c.reversed; peers = y }))
-      (p ∙ sym (entries-length L s)) (q ∙ sym (peers-length L s w))
-      ∙ ap (λ (x : Classes). CountedAs.Counts (record { held = length (entries L s); fit = x.fit; ended = x.ended; early = x.early; reversed = x.reversed; peers = length (peers_of (entries L s)) })) e)
+  pub counts_of_sound : edition_of (length s) ≡ Some L → sound L s ≡ true → (c : Classes) (n m : ℕ) → c ≡ classes_of t (entries L s) → n ≡ key_count s → m ≡ peer_count s
+      → Some (record { held = n; classes = c; peers = m }) ≡ counts_of s t
+  unfolding counts_of counts_in tally_of
+  counts_of_sound e h c n m p q r =
+      let w : Sound L s = sound_says L s h in
+      rw (e, h, entries-length L s, peers-length L s w) cc
 
 -- ---- sums
-
-pub room-there : (a b : ℕ) (o : Bool) → a ≤ largest → b ≤ largest - a → o ≡ (leb (a + b) largest && o)
-room-there a b o h k = let l : a + b ≤ largest = omega arith in rw (le-leb (a + b) largest l)
-
-pub room_gone : (a b : ℕ) (o : Bool) → a ≤ largest → largest - a < b → false ≡ (leb (a + b) largest && o)
-room_gone a b o h k = let l : largest < a + b = omega arith in rw (lt-leb (a + b) largest l)
 
 six : (a b c d e f : Bool) → all_hold (a ∷ b ∷ c ∷ d ∷ e ∷ f ∷ []) ≡ true
     → (a ≡ true) × (b ≡ true) × (c ≡ true) × (d ≡ true) × (e ≡ true) × (f ≡ true)
@@ -128,14 +118,14 @@ six a b c d e f h =
 
 pub rooms_say : (a b : Tally) → all_hold (rooms a b) ≡ true → Within a b
 rooms_say a b h =
-    let p = six (leb (a.held + b.held) largest) (leb (a.fit + b.fit) largest) (leb (a.ended + b.ended) largest) (leb (a.early + b.early) largest)
-    (leb (a.reversed + b.reversed) largest) (leb (a.peers + b.peers) largest) h in
+    let p = six (leb (a.held + b.held) largest) (leb (a.classes.fit + b.classes.fit) largest) (leb (a.classes.ended + b.classes.ended) largest) (leb (a.classes.early + b.classes.early) largest)
+    (leb (a.classes.reversed + b.classes.reversed) largest) (leb (a.peers + b.peers) largest) h in
     record {
       held = leb-true (a.held + b.held) largest p.0;
-      fit = leb-true (a.fit + b.fit) largest p.1;
-      ended = leb-true (a.ended + b.ended) largest p.2;
-      early = leb-true (a.early + b.early) largest p.3;
-      reversed = leb-true (a.reversed + b.reversed) largest p.4;
+      fit = leb-true (a.classes.fit + b.classes.fit) largest p.1;
+      ended = leb-true (a.classes.ended + b.classes.ended) largest p.2;
+      early = leb-true (a.classes.early + b.classes.early) largest p.3;
+      reversed = leb-true (a.classes.reversed + b.classes.reversed) largest p.4;
       peers = leb-true (a.peers + b.peers) largest p.5;
     }
 
@@ -144,9 +134,22 @@ unfolding all_hold
 rooms-there a b w =
     rw (
       le-leb (a.held + b.held) largest w.held,
-      le-leb (a.fit + b.fit) largest w.fit,
-      le-leb (a.ended + b.ended) largest w.ended,
-      le-leb (a.early + b.early) largest w.early,
-      le-leb (a.reversed + b.reversed) largest w.reversed,
+      le-leb (a.classes.fit + b.classes.fit) largest w.fit,
+      le-leb (a.classes.ended + b.classes.ended) largest w.ended,
+      le-leb (a.classes.early + b.classes.early) largest w.early,
+      le-leb (a.classes.reversed + b.classes.reversed) largest w.reversed,
       le-leb (a.peers + b.peers) largest w.peers,
     )
+
+module _ (a b : Tally) where
+  pub given : Within a b → sum_of a b ≡ Some (sums a b)
+  unfolding sum_of
+  given w = rw (rooms-there a b w)
+
+  pub refused : (Within a b → ⊥) → sum_of a b ≡ None
+  unfolding sum_of
+  refused f = go (all_hold (rooms a b)) refl
+    where
+      go : (r : Bool) → all_hold (rooms a b) ≡ r → cond r (Some (sums a b)) None ≡ None
+      go true e = absurd (f (rooms_say a b e))
+      go false e = refl

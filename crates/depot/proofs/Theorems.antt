@@ -3,6 +3,8 @@
 use mathlib.Core.Path.{◌≡◌, refl, sym, ap, subst}
 use mathlib.Core.Bool.{Bool, true, false, cond}
 use mathlib.Core.List.{List, [], ◌∷◌, ◌++◌, map}
+use Rattle.std.proofs.Common.{Option, Some, None}
+use Rattle.store.specs.declared.Limits.{Limits}
 use Prim.Native.Nat.{ℕ, suc}
 use native.Mathlib.Omega.{arith}
 use lib.ListN.{length}
@@ -12,16 +14,12 @@ use Rattle.octets.proofs.BoolLaws.{between-true, is-between, over}
 use Rattle.store.specs.Layout.{edition_of}
 use Rattle.store.specs.Store.{Entry, peers_of, entries, sound, all_hold}
 use Rattle.store.specs.Search.{fits}
-use Rattle.store.specs.declared.Edition.{Edition}
-use Rattle.store.specs.declared.Edition.TheVariants.{Known, Unknown}
 use Rattle.depot.specs.declared.Class.{Class}
 use Rattle.depot.specs.declared.Class.TheVariants.{Fit, Ended, Early, Reversed}
 use Rattle.depot.specs.declared.Tally.{Tally}
-use Rattle.depot.specs.declared.Counted.TheVariants.{Counts, Bad}
-use Rattle.depot.specs.declared.Summed.TheVariants.{Sums, TooLarge}
 use Rattle.depot.specs.Claims.{Means, ClassesMean, AddsUp, ClassesAddUp, CountsExactly, bare, CountsShowNoKey, Within, SumsExactly}
 use Rattle.depot.specs.Counts.{class_of, class_in, one_more, classes_of, tally_of, counts_in, counts_of, rooms, sums, sum_of}
-use Rattle.depot.proofs.CountLaws.{all-counted, class_reversed, class_early, class_fit, class_ended, rooms_say, rooms-there}
+use Rattle.depot.proofs.CountLaws.{all-counted, class_reversed, class_early, class_fit, class_ended, rooms_say, given, refused}
 
 -- ---- classes
 
@@ -51,12 +49,12 @@ entries-add-up : (t : ℕ) (es : List Entry) → AddsUp (tally_of t es)
 unfolding tally_of
 entries-add-up t es = all-counted t es
 
-counts-add-up : (d : Edition) (s : List ℕ) (t : ℕ) (c : Tally) → counts_in d s t ≡ Counts c → AddsUp c
+counts-add-up : (d : Option Limits) (s : List ℕ) (t : ℕ) (c : Tally) → counts_in d s t ≡ Some c → AddsUp c
 unfolding counts_in
-counts-add-up Unknown s t c e = let z : ◌≡◌ {A = ℕ} 0 1 = cc in absurd (omega arith)
-counts-add-up (Known L) s t c e = go (sound L s) e
+counts-add-up None s t c e = let z : ◌≡◌ {A = ℕ} 0 1 = cc in absurd (omega arith)
+counts-add-up (Some L) s t c e = go (sound L s) e
   where
-    go : (b : Bool) → cond b (Counts (tally_of t (entries L s))) Bad ≡ Counts c → AddsUp c
+    go : (b : Bool) → cond b (Some (tally_of t (entries L s))) None ≡ Some c → AddsUp c
     go true q = let k : tally_of t (entries L s) ≡ c = cc in subst AddsUp k (entries-add-up t (entries L s))
     go false q = let z : ◌≡◌ {A = ℕ} 0 1 = cc in absurd (omega arith)
 
@@ -94,23 +92,11 @@ counts_show_no_key = record { same = bare-same }
 -- ---- sums
 
 module _ (a b : Tally) where
-  given : Within a b → sum_of a b ≡ Sums (sums a b)
-  unfolding sum_of
-  given w = rw (rooms-there a b w)
-
-  refused : (Within a b → ⊥) → sum_of a b ≡ TooLarge
-  unfolding sum_of
-  refused f = go (all_hold (rooms a b)) refl
-    where
-      go : (r : Bool) → all_hold (rooms a b) ≡ r → cond r (Sums (sums a b)) TooLarge ≡ TooLarge
-      go true e = absurd (f (rooms_say a b e))
-      go false e = refl
-
-  only : (c : Tally) → sum_of a b ≡ Sums c → Within a b × (c ≡ sums a b)
+  only : (c : Tally) → sum_of a b ≡ Some c → Within a b × (c ≡ sums a b)
   unfolding sum_of
   only c = go (all_hold (rooms a b)) refl
     where
-      go : (r : Bool) → all_hold (rooms a b) ≡ r → cond r (Sums (sums a b)) TooLarge ≡ Sums c → Within a b × (c ≡ sums a b)
+      go : (r : Bool) → all_hold (rooms a b) ≡ r → cond r (Some (sums a b)) None ≡ Some c → Within a b × (c ≡ sums a b)
       go true e q = (rooms_say a b e, cc)
       go false e q = let z : ◌≡◌ {A = ℕ} 0 1 = cc in absurd (omega arith)
 

@@ -1,17 +1,14 @@
 -- What is claimed of the counts beside the contracts. proofs/Theorems.antt has a proof of each claim.
 -- Assumes nothing.
-use Rattle.std.specs.Prelude.{◌≡◌, true, false, List, [], map, ℕ, ◌+◌, ◌≤◌, ◌<◌, length}
+use Rattle.std.specs.Prelude.{◌≡◌, true, false, Some, None, List, [], map, ℕ, ◌+◌, ◌≤◌, ◌<◌, length}
 use Rattle.store.specs.Layout.{edition_of}
 use Rattle.store.specs.Store.{Entry, entries, sound}
 use Rattle.store.specs.Search.{fits}
 use Rattle.store.specs.declared.Limits.{Limits}
-use Rattle.store.specs.declared.Edition.TheVariants.{Known, Unknown}
 use Rattle.depot.specs.declared.Class.{Class}
 use Rattle.depot.specs.declared.Class.TheVariants.{Fit, Ended, Early, Reversed}
 use Rattle.depot.specs.declared.Tally.{Tally}
-use Rattle.depot.specs.declared.Counted.TheVariants.{Counts, Bad}
-use Rattle.depot.specs.declared.Summed.TheVariants.{Sums, TooLarge}
-use Rattle.depot.specs.Counts.{class_of, tally_of, counts_of, sums, largest, sum_of}
+use Rattle.depot.specs.Counts.{class_of, in_all, tally_of, counts_of, sums, largest, sum_of}
 
 -- ---- classes
 
@@ -31,20 +28,20 @@ pub record ClassesMean : Type 0 where
 
 -- "the four classes add up to the keys held"
 abbrev pub AddsUp : Tally → Type 0
-AddsUp c = c.fit + c.ended + c.early + c.reversed ≡ c.held
+AddsUp c = in_all c.classes ≡ c.held
 
 -- for every list of entries, for every store that has counts, and T
 pub record ClassesAddUp : Type 0 where
   pub of_entries : (t : ℕ) (es : List Entry) → AddsUp (tally_of t es)
-  pub of_store : (s : List ℕ) (t : ℕ) (c : Tally) → counts_of s t ≡ Counts c → AddsUp c
+  pub of_store : (s : List ℕ) (t : ℕ) (c : Tally) → counts_of s t ≡ Some c → AddsUp c
 
 -- ---- counts
 
--- a store of an edition's length that is sound there has the counts of its entries; every other is bad
+-- a store of an edition's length that is sound there has the counts of its entries; every other has none
 pub record CountsExactly : Type 0 where
-  pub given : (L : Limits) (s : List ℕ) (t : ℕ) → edition_of (length s) ≡ Known L → sound L s ≡ true → counts_of s t ≡ Counts (tally_of t (entries L s))
-  pub unsound : (L : Limits) (s : List ℕ) (t : ℕ) → edition_of (length s) ≡ Known L → sound L s ≡ false → counts_of s t ≡ Bad
-  pub no_edition : (s : List ℕ) (t : ℕ) → edition_of (length s) ≡ Unknown → counts_of s t ≡ Bad
+  pub given : (L : Limits) (s : List ℕ) (t : ℕ) → edition_of (length s) ≡ Some L → sound L s ≡ true → counts_of s t ≡ Some (tally_of t (entries L s))
+  pub unsound : (L : Limits) (s : List ℕ) (t : ℕ) → edition_of (length s) ≡ Some L → sound L s ≡ false → counts_of s t ≡ None
+  pub no_edition : (s : List ℕ) (t : ℕ) → edition_of (length s) ≡ None → counts_of s t ≡ None
 
 -- an entry without its KMAC
 abbrev pub bare : Entry → Entry
@@ -59,14 +56,14 @@ pub record CountsShowNoKey : Type 0 where
 -- none of the six passes the largest number of four bytes
 pub record Within (a b : Tally) : Type 0 where
   pub held : a.held + b.held ≤ largest
-  pub fit : a.fit + b.fit ≤ largest
-  pub ended : a.ended + b.ended ≤ largest
-  pub early : a.early + b.early ≤ largest
-  pub reversed : a.reversed + b.reversed ≤ largest
+  pub fit : a.classes.fit + b.classes.fit ≤ largest
+  pub ended : a.classes.ended + b.classes.ended ≤ largest
+  pub early : a.classes.early + b.classes.early ≤ largest
+  pub reversed : a.classes.reversed + b.classes.reversed ≤ largest
   pub peers : a.peers + b.peers ≤ largest
 
--- the sums are given exactly where that is so; else the answer is too large
+-- the sums are given exactly where that is so; else there are none
 pub record SumsExactly : Type 0 where
-  pub given : (a b : Tally) → Within a b → sum_of a b ≡ Sums (sums a b)
-  pub refused : (a b : Tally) → (Within a b → ⊥) → sum_of a b ≡ TooLarge
-  pub only : (a b c : Tally) → sum_of a b ≡ Sums c → Within a b × (c ≡ sums a b)
+  pub given : (a b : Tally) → Within a b → sum_of a b ≡ Some (sums a b)
+  pub refused : (a b : Tally) → (Within a b → ⊥) → sum_of a b ≡ None
+  pub only : (a b c : Tally) → sum_of a b ≡ Some c → Within a b × (c ≡ sums a b)

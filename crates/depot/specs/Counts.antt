@@ -1,19 +1,14 @@
 -- What the report counts (change request 14): the keys of a store by their periods at a moment T, its peers, and the sums over many stores.
 -- Assumes nothing.
-use Rattle.std.specs.Prelude.{Bool, cond, List, [], ◌∷◌, ℕ, ◌+◌, length, leb, ltb}
+use Rattle.std.specs.Prelude.{Bool, cond, Option, Some, None, List, [], ◌∷◌, ℕ, ◌+◌, length, leb, ltb}
 use Rattle.store.specs.Layout.{edition_of}
 use Rattle.store.specs.Store.{Entry, entries, peers_of, sound, all_hold}
 use Rattle.store.specs.Search.{fits}
-use Rattle.store.specs.declared.Edition.{Edition}
-use Rattle.store.specs.declared.Edition.TheVariants.{Known, Unknown}
+use Rattle.store.specs.declared.Limits.{Limits}
 use Rattle.depot.specs.declared.Class.{Class}
 use Rattle.depot.specs.declared.Class.TheVariants.{Fit, Ended, Early, Reversed}
 use Rattle.depot.specs.declared.Classes.{Classes}
 use Rattle.depot.specs.declared.Tally.{Tally}
-use Rattle.depot.specs.declared.Counted.{Counted}
-use Rattle.depot.specs.declared.Counted.TheVariants as CountedAs
-use Rattle.depot.specs.declared.Summed.{Summed}
-use Rattle.depot.specs.declared.Summed.TheVariants as SummedAs
 
 -- ---- classes
 
@@ -45,16 +40,14 @@ in_all c = c.fit + c.ended + c.early + c.reversed
 
 -- keys held, the four classes, peers held
 unfoldable pub tally_of : ℕ → List Entry → Tally
-tally_of t es =
-    let c = classes_of t es in
-    record { held = length es; fit = c.fit; ended = c.ended; early = c.early; reversed = c.reversed; peers = length (peers_of es) }
+tally_of t es = record { held = length es; classes = classes_of t es; peers = length (peers_of es) }
 
--- "is unsound or has a wrong length": bad
-unfoldable pub counts_in : Edition → List ℕ → ℕ → Counted
-counts_in Unknown s t = CountedAs.Bad
-counts_in (Known L) s t = cond (sound L s) (CountedAs.Counts (tally_of t (entries L s))) CountedAs.Bad
+-- "is unsound or has a wrong length": none
+unfoldable pub counts_in : Option Limits → List ℕ → ℕ → Option Tally
+counts_in None s t = None
+counts_in (Some L) s t = cond (sound L s) (Some (tally_of t (entries L s))) None
 
-unfoldable pub counts_of : List ℕ → ℕ → Counted
+unfoldable pub counts_of : List ℕ → ℕ → Option Tally
 counts_of s t = counts_in (edition_of (length s)) s t
 
 -- ---- sums
@@ -63,10 +56,12 @@ abbrev pub sums : Tally → Tally → Tally
 sums a b =
     record {
       held = a.held + b.held;
-      fit = a.fit + b.fit;
-      ended = a.ended + b.ended;
-      early = a.early + b.early;
-      reversed = a.reversed + b.reversed;
+      classes = record {
+        fit = a.classes.fit + b.classes.fit;
+        ended = a.classes.ended + b.classes.ended;
+        early = a.classes.early + b.classes.early;
+        reversed = a.classes.reversed + b.classes.reversed;
+      };
       peers = a.peers + b.peers;
     }
 
@@ -78,12 +73,12 @@ largest = 4294967295
 abbrev pub rooms : Tally → Tally → List Bool
 rooms a b =
     leb (a.held + b.held) largest
-    ∷ leb (a.fit + b.fit) largest
-    ∷ leb (a.ended + b.ended) largest
-    ∷ leb (a.early + b.early) largest
-    ∷ leb (a.reversed + b.reversed) largest
+    ∷ leb (a.classes.fit + b.classes.fit) largest
+    ∷ leb (a.classes.ended + b.classes.ended) largest
+    ∷ leb (a.classes.early + b.classes.early) largest
+    ∷ leb (a.classes.reversed + b.classes.reversed) largest
     ∷ leb (a.peers + b.peers) largest
     ∷ []
 
-unfoldable pub sum_of : Tally → Tally → Summed
-sum_of a b = cond (all_hold (rooms a b)) (SummedAs.Sums (sums a b)) SummedAs.TooLarge
+unfoldable pub sum_of : Tally → Tally → Option Tally
+sum_of a b = cond (all_hold (rooms a b)) (Some (sums a b)) None

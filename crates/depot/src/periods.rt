@@ -14,15 +14,14 @@ fn class_of(start: u32, end: u32, t: u32) -> Class
     ensures { result ≡ class_of start «end» t }
 {
     if end < start {
-        return Class::Reversed;
+        Class::Reversed
+    } else if t < start {
+        Class::Early
+    } else if fits(start, end, t) {
+        Class::Fit
+    } else {
+        Class::Ended
     }
-    if t < start {
-        return Class::Early;
-    }
-    if fits(start, end, t) {
-        return Class::Fit;
-    }
-    Class::Ended
 }
 
 // The class of record i of a sound store.
@@ -35,55 +34,29 @@ fn class_at(s: &[u8], lim: Limits, i: usize, t: u32) -> Class
     class_of(get32_at(s, at + 32), get32_at(s, at + 36), t)
 }
 
-// One key more in a class.
-fn one_more(c: Classes, class: Class) -> Classes
-    requires { in_all c < 65536 }
-    ensures { result ≡ one_more class c }
-{
-    match class {
-        Class::Fit => Classes {
-            fit: c.fit + 1,
-            ended: c.ended,
-            early: c.early,
-            reversed: c.reversed,
-        },
-        Class::Ended => Classes {
-            fit: c.fit,
-            ended: c.ended + 1,
-            early: c.early,
-            reversed: c.reversed,
-        },
-        Class::Early => Classes {
-            fit: c.fit,
-            ended: c.ended,
-            early: c.early + 1,
-            reversed: c.reversed,
-        },
-        Class::Reversed => Classes {
-            fit: c.fit,
-            ended: c.ended,
-            early: c.early,
-            reversed: c.reversed + 1,
-        },
+impl Classes {
+    // One key more in a class.
+    fn one_more(&mut self, class: Class)
+        requires { in_all self.old < 65536 }
+        ensures { self.new ≡ one_more class self.old }
+    {
+        match class {
+            Class::Fit => self.fit += 1,
+            Class::Ended => self.ended += 1,
+            Class::Early => self.early += 1,
+            Class::Reversed => self.reversed += 1,
+        }
     }
 }
 
-// How many keys of a sound store are in each class, in_all from the last to the first.
+// How many keys of a sound store are in each class, counted from the last to the first.
 pub fn classes_of(s: &[u8], lim: Limits, t: u32) -> Classes
     requires { sound lim s.now ≡ true }
     ensures { result ≡ classes_of t (entries lim s.now) }
 {
-    let n = number_at(s, 2);
-    let mut c = Classes {
-        fit: 0,
-        ended: 0,
-        early: 0,
-        reversed: 0,
-    };
-    let mut i = n;
-    while i > 0 {
-        i -= 1;
-        c = one_more(c, class_at(s, lim, i, t));
+    let mut c = Classes::default();
+    for i in (0..number_at(s, 2)).rev() {
+        c.one_more(class_at(s, lim, i, t));
     }
     c
 }

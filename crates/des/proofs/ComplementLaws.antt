@@ -15,7 +15,8 @@ use Rattle.des.specs.Tables.{ip, ip_inverse, e, p, pc1, pc2, shifts}
 use Rattle.des.specs.Des.{permute, selects, cipher_function, swap, shift_both, shifted, subkey, round, rounds, cipher, encipher_bits, decipher_bits}
 use Rattle.des.specs.Words.{every}
 use Rattle.des.specs.Claims.{complement}
-use Rattle.des.proofs.MapLaws.{get_d_map, take-map, drop-map, swap-map, shift_map, map-every}
+use Rattle.std.proofs.lemmas.List.{take-map, drop-map}
+use Rattle.des.proofs.MapLaws.{get_d_map, swap-map, shift_map, map-every}
 use Rattle.des.proofs.BlockLaws.{Small, Block, small-append, small-take, small-drop, small-swap, small-permute, length-permute, length-swap}
 use Rattle.des.proofs.ByteLaws.{bytes_of_bits_lem, bits_of_bytes_lem, byte_values, length-bytes_of_bits}
 use Rattle.des.proofs.CipherLaws.{half_right, rounds-block, ip-block}

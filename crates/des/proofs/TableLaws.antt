@@ -3,19 +3,25 @@
 use mathlib.Core.Path.{◌≡◌, refl, sym, ap, ap₂, ◌∙◌, subst⁻¹}
 use mathlib.Core.Bool.{true, ◌&&◌}
 use mathlib.Core.List.{List, [], ◌∷◌, ◌++◌, map-append}
-use Prim.Native.Nat.{ℕ, suc, ◌+◌, ◌-◌, ◌*◌, ◌/◌, ◌%◌, ◌^◌, ◌≤◌, ◌<◌}
-use native.Mathlib.Nat.{add_comm, zero-add, mul-zero, mul-le-mul_left, mul-div_cancel}
+use Prim.Native.Nat.{ℕ, zero, suc, ◌+◌, ◌-◌, ◌*◌, ◌/◌, ◌%◌, ◌^◌, ◌≤◌, ◌<◌}
+use native.Mathlib.Nat.{add_comm}
 use native.Mathlib.Omega.{arith}
 use native.Mathlib.Numerals.{add-one}
-use lib.Dec.{leb, ltb, lit≤, lit<}
+use lib.Dec.{lit<, leb, ltb, lit≤}
 use borrow.Author.Tests.{leb-true, ltb-true}
 use lib.Pow.{shr_lt}
 use lib.Bits.{bit_and, bit_or, bit_xor, and_mask}
 use lib.ListN.{length, get_or, take, drop}
 use lib.Seq.{get_or_at, drop-append-le}
-use Rattle.octets.specs.Bytes.{part}
+use Rattle.std.specs.List.{list_all}
+use Rattle.std.proofs.Math.Nat.{mul-suc}
+use native.Mathlib.Nat.{mul_comm}
+use Rattle.std.proofs.lemmas.List.Folds.{list_all-append}
+use Rattle.std.proofs.lemmas.List.{take_more, nil_from_length, append-nil}
+use lib.ListN.{length-append}
+use mathlib.Core.List.{append_assoc}
+use mathlib.Core.Bool.{Bool}
 use Rattle.octets.proofs.BoolLaws.{and_left, and_right}
-use Rattle.octets.proofs.PartLaws.{part-add, part_snoc}
 use Rattle.des.specs.Bits.{bits, value, value_from, xor_bits}
 use Rattle.des.specs.Des.{permute, row, column, select, selects, swap, shift_both, round, cipher_function}
 use Rattle.des.specs.Tables.{sboxes}
@@ -32,7 +38,7 @@ one_bit : (b : ℕ) → b < 2 → bits 1 b ≡ b ∷ []
 unfolding bits
 one_bit b h = ap (λ (n : ℕ). n ∷ []) (omega arith)
 
--- ---- permutations, a row of a table at a time
+-- ---- permutations, an entry of a table at a time
 
 pub names_at : {w : ℕ} {t : List ℕ} → Names w t → (i : ℕ) → i < length t → (1 ≤ get_or t i 0) × (get_or t i 0 ≤ w)
 names_at {w} {t} n i h =
@@ -54,47 +60,69 @@ permute-one : (k : ℕ) (bs : List ℕ) → permute (k ∷ []) bs ≡ get_or bs 
 unfolding permute
 permute-one k bs = refl
 
--- one entry more of a row
-pub row_step : (w x : ℕ) (t : List ℕ) (from i r : ℕ) → Names w t → from + i < length t → i + 1 ≤ 64 → Holds i r (permute (part t from i) (bits w x))
-    → Holds (i + 1) (bit_or (r * 2 % 2 ^ 64) (bit_and (x / 2 ^ (w - get_or t (from + i) 0)) 1)) (permute (part t from (i + 1)) (bits w x))
-row_step w x t from i r n h s p =
-    let k = get_or t (from + i) 0 in
-    let v : (1 ≤ k) × (k ≤ w) = names_at n (from + i) h in
+-- one entry more of a table
+pub entry_step : (w x : ℕ) (t : List ℕ) (i r : ℕ) → Names w t → i < length t → i + 1 ≤ 64 → Holds i r (permute (take i t) (bits w x))
+    → Holds (i + 1) (bit_or (r * 2 % 2 ^ 64) (bit_and (x / 2 ^ (w - get_or t i 0)) 1)) (permute (take (i + 1) t) (bits w x))
+entry_step w x t i r n h s p =
+    let k = get_or t i 0 in
+    let v : (1 ≤ k) × (k ≤ w) = names_at n i h in
     let m : bit_and (x / 2 ^ (w - k)) 1 ≡ x / 2 ^ (w - k) % 2 = and_mask (x / 2 ^ (w - k)) 1 in
     let b : bit_and (x / 2 ^ (w - k)) 1 < 2 = omega arith in
     recast (pushed i 1 s p (whole 1 _ b))
-    (ap (λ (l : List ℕ). permute (part t from i) (bits w x) ++ l)
+    (ap (λ (l : List ℕ). permute (take i t) (bits w x) ++ l)
     (one_bit _ b ∙ ap (λ (n : ℕ). n ∷ []) (m ∙ sym (named w k x v.0 v.1)) ∙ sym (permute-one k (bits w x)))
-    ∙ sym (permute-append (part t from i) (k ∷ []) (bits w x)) ∙ ap (λ (l : List ℕ). permute l (bits w x)) (sym (part_snoc t from i h)))
+    ∙ sym (permute-append (take i t) (k ∷ []) (bits w x)) ∙ ap (λ (l : List ℕ). permute l (bits w x)) (sym (take_more t i 0 h)))
 
--- a table's rows: eight, each within the table, none yet, and one more
-pub eight-rows : {w n : ℕ} {t : List ℕ} → Rows w n t → length t / n ≡ 8
-eight-rows {w} {n} r = ap (λ (l : ℕ). l / n) r.eight ∙ mul-div_cancel 8 r.some
+-- a table's rows: those passed and what they name, and the rows left
+pub record Passed (w n x r : ℕ) (t rest : List ℕ) : Type 0 where
+  pub front : List ℕ
+  pub cut : t ≡ front ++ rest
+  pub rows : (k : ℕ) × (length rest ≡ n * k)
+  pub held : Holds (length front) r (permute front (bits w x))
 
-pub rows_fit : (n i : ℕ) → i < 8 → n * i + n ≤ 8 * n
-rows_fit n i h =
-    let m : n * (i + 1) ≤ n * 8 = mul-le-mul_left n (omega arith) in
-    omega arith
+-- no row yet
+pub no_rows : {w n x : ℕ} {t : List ℕ} → Rows w n t → Passed w n x 0 t t
+unfolding bits permute
+no_rows {w} {n} r = record { front = []; cut = refl; rows = (8, r.eight ∙ mul_comm 8 n); held = record { fits = lit< tt; same = refl } }
 
-pub no_rows : (w x n : ℕ) (t : List ℕ) → Holds (n * 0) 0 (permute (part t 0 (n * 0)) (bits w x))
-unfolding bits permute part
-no_rows w x n t = subst⁻¹ (λ (k : ℕ). Holds k 0 (permute (part t 0 k) (bits w x))) (mul-zero n) (record { fits = lit< tt; same = refl })
+-- the next row: its entries name bits of the word, and one row more is passed
+pub row_names : {w n x r : ℕ} {t rest : List ℕ} (row tail : List ℕ) → Rows w n t → Passed w n x r t rest → rest ≡ row ++ tail → Names w row
+row_names {w} {n} {x} {r} {t} {rest} row tail h p e =
+    let test : ℕ → Bool = λ k. leb 1 k && leb k w in
+    let all : (list_all test p.front && (list_all test row && list_all test tail)) ≡ true =
+    sym (list_all-append test p.front (row ++ tail) ∙ ap (λ (b : Bool). list_all test p.front && b) (list_all-append test row tail))
+    ∙ ap (list_all test) (sym (p.cut ∙ ap (λ (l : List ℕ). p.front ++ l) e)) ∙ h.names.entries in
+    record { wide = h.names.wide; entries = and_left (list_all test row) (list_all test tail) (and_right (list_all test p.front) _ all) }
 
-pub rows_step : (w x n : ℕ) (t : List ℕ) (i : ℕ) {r q : ℕ} → n * i + n ≤ 64 → Holds (n * i) r (permute (part t 0 (n * i)) (bits w x)) → Holds n q (permute (part t (n * i) n) (bits w x))
-    → Holds (n * (i + 1)) (bit_or (r * 2 ^ n % 2 ^ 64) q) (permute (part t 0 (n * (i + 1))) (bits w x))
-rows_step w x n t i h hr hq =
-    let e : n * i + n ≡ n * (i + 1) = omega arith in
-    resize e
-    (recast (pushed (n * i) n h hr hq)
-    (sym (permute-append (part t 0 (n * i)) (part t (n * i) n) (bits w x))
-    ∙ ap (λ (l : List ℕ). permute l (bits w x)) (ap (λ (k : ℕ). part t 0 (n * i) ++ part t k n) (sym (zero-add (n * i))) ∙ sym (part-add t 0 (n * i) n) ∙ ap (part t 0) e)))
+pub row_passed : {w n x r q : ℕ} {t rest : List ℕ} (row tail : List ℕ) → Rows w n t → Passed w n x r t rest → rest ≡ row ++ tail → length row ≡ n
+    → Holds (length row) q (permute row (bits w x)) → Passed w n x (bit_or (r * 2 ^ n % 2 ^ 64) q) t tail
+row_passed {w} {n} {x} {r} {q} {t} {rest} row tail h p e l hq =
+    let long : length rest ≡ length row + length tail = ap length e ∙ length-append row tail in
+    let whole : length t ≡ length p.front + length rest = ap length p.cut ∙ length-append p.front rest in
+    let fits : length p.front + n ≤ 64 = omega (arith, h.eight, h.most) in
+    record {
+      front = p.front ++ row;
+      cut = p.cut ∙ ap (λ (s : List ℕ). p.front ++ s) e ∙ sym (append_assoc p.front row tail);
+      rows = less p.rows.0 n (length tail) h.some (omega (arith, p.rows.1));
+      held =
+          resize (ap (λ (k : ℕ). length p.front + k) (sym l) ∙ sym (length-append p.front row))
+          (recast (pushed (length p.front) n fits p.held (resize l hq)) (sym (permute-append p.front row (bits w x))));
+    }
+  where
+    less : (k n m : ℕ) → 1 ≤ n → n + m ≡ n * k → (j : ℕ) × (m ≡ n * j)
+    less zero n m h e = absurd (omega arith)
+    less (suc k) n m h e = (k, omega (arith, mul-suc n k))
 
--- a table that is lent, and what is worked by it
-pub rows_lent : {w n : ℕ} {t u : List ℕ} → t ≡ u → Rows w n u → Rows w n t
-rows_lent {w} {n} e r = subst⁻¹ (λ (l : List ℕ). Rows w n l) e r
-
-pub worked_lent : (bs : List ℕ) {v r : ℕ} {t u : List ℕ} → t ≡ u → Holds v r (permute t bs) → Holds v r (permute u bs)
-worked_lent bs e h = recast h (ap (λ (l : List ℕ). permute l bs) e)
+-- all of them
+pub all_rows : {w n x r : ℕ} {t rest : List ℕ} → Rows w n t → Passed w n x r t rest → length rest < n → Holds (8 * n) r (permute t (bits w x))
+all_rows {w} {n} {x} {r} {t} {rest} h p l =
+    let none : rest ≡ [] = nil_from_length rest (no p.rows.0 (length rest) l p.rows.1) in
+    let e : t ≡ p.front = p.cut ∙ ap (λ (s : List ℕ). p.front ++ s) none ∙ append-nil p.front in
+    resize (ap length (sym e) ∙ h.eight) (recast p.held (ap (λ (s : List ℕ). permute s (bits w x)) (sym e)))
+  where
+    no : (k m : ℕ) → m < n → m ≡ n * k → m ≡ 0
+    no zero m h e = omega arith
+    no (suc k) m h e = absurd (omega (arith, mul-suc n k))
 
 -- ---- left shifts
 
@@ -175,21 +203,16 @@ column-bits : (g : ℕ) → column (bits 6 g) ≡ g / 2 % 16
 unfolding column
 column-bits g = ap value (part-bits 1 4 1 g) ∙ value-bits 4 (g / 2)
 
-pub length_boxes : length sboxes ≡ 512
-unfolding sboxes
-length_boxes = refl
-
 small : (n : ℕ) → n < 512 → get_or sboxes n 0 < 16
 unfolding sboxes
 small n h = ltb-true (get_or sboxes n 0) 16 (every-at (λ (x : ℕ). ltb x 16) sboxes refl n h)
 
-pub selected : (t : List ℕ) (k g : ℕ) → t ≡ sboxes → k < 8 → g < 64
-    → Holds 4 (get_or t (64 * k + 16 * bit_or (g / 32 * 2 % 2 ^ 64) (bit_and g 1) + bit_and (g / 2) 15) 0) (select k (bits 6 g))
+pub selected : (k g : ℕ) → k < 8 → g < 64
+    → Holds 4 (get_or sboxes (64 * k + 16 * bit_or (g / 32 * 2 % 2 ^ 64) (bit_and g 1) + bit_and (g / 2) 15) 0) (select k (bits 6 g))
 unfolding select
-selected t k g ht hk hg =
+selected k g hk hg =
     let n = 64 * k + 16 * row (bits 6 g) + column (bits 6 g) in
     let e : 64 * k + 16 * bit_or (g / 32 * 2 % 2 ^ 64) (bit_and g 1) + bit_and (g / 2) 15 ≡ n =
     ap₂ (λ (a b : ℕ). 64 * k + 16 * a + b) (row_number g hg ∙ sym (row-bits g hg)) (column-number g ∙ sym (column-bits g)) in
     let l : n < 512 = omega (arith, row-bits g hg, column-bits g) in
-    subst⁻¹ (λ (s : List ℕ). Holds 4 (get_or s (64 * k + 16 * bit_or (g / 32 * 2 % 2 ^ 64) (bit_and g 1) + bit_and (g / 2) 15) 0) (bits 4 (get_or sboxes n 0))) ht
-    (subst⁻¹ (λ (m : ℕ). Holds 4 (get_or sboxes m 0) (bits 4 (get_or sboxes n 0))) e (whole 4 (get_or sboxes n 0) (small n l)))
+    subst⁻¹ (λ (m : ℕ). Holds 4 (get_or sboxes m 0) (bits 4 (get_or sboxes n 0))) e (whole 4 (get_or sboxes n 0) (small n l))

@@ -1,6 +1,7 @@
 -- What the code's words hold.
 -- Assumes nothing.
 use Rattle.std.specs.Prelude.{◌≡◌, Bool, true, false, ◌&&◌, List, [], ◌∷◌, ℕ, zero, suc, ◌-◌, ◌*◌, ◌≤◌, ◌<◌, ◌^◌, leb, length, get_or}
+use Rattle.std.specs.List.{list_all}
 use Rattle.des.specs.Bits.{bits}
 use Rattle.des.specs.Des.{subkey}
 
@@ -11,8 +12,7 @@ pub record Holds (w x : ℕ) (bs : List ℕ) : Type 0 where
 
 -- the test p passes at each element
 abbrev pub every : (ℕ → Bool) → List ℕ → Bool
-every p [] = true
-every p (x ∷ xs) = p x && every p xs
+every p xs = list_all p xs
 
 -- the numbers from a on
 abbrev pub up_from : ℕ → ℕ → List ℕ

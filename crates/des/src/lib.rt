@@ -9,8 +9,7 @@ ghost use Rattle.des.specs.Words.{Keys, keys_of};
 use crate::iteration::crypt;
 use crate::permutation::{choice1, choice2};
 use crate::shift::shift_both;
-use crate::tables::{SHIFTS, pc2_table};
-use octets::wide64;
+use crate::tables::SHIFTS;
 
 pub mod iteration;
 pub mod permutation;
@@ -19,6 +18,7 @@ mod shift;
 pub mod tables;
 
 // The block enciphered with the key.
+// Enciphering and deciphering are two functions, each with its definition, as the C interface asks; what they share is `crypt`.
 pub fn encipher(key: [u8; 8], block: [u8; 8]) -> [u8; 8]
     ensures { result ≡ des_encipher key block }
 {
@@ -38,14 +38,11 @@ pub fn decipher(key: [u8; 8], block: [u8; 8]) -> [u8; 8]
 pub fn schedule(key: u64) -> [u64; 16]
     ensures { Keys (bits 64 key) result }
 {
-    let table = pc2_table();
     let mut keys = [0u64; 16];
     let mut cd = choice1(key);
-    let mut n = 0;
-    while n < 16 {
-        cd = shift_both(cd, wide64(SHIFTS[n]));
-        keys[n] = choice2(cd, &table);
-        n += 1;
+    for n in 0..16 {
+        cd = shift_both(cd, u64::from(SHIFTS[n]));
+        keys[n] = choice2(cd);
     }
     keys
 }
@@ -64,6 +61,7 @@ pub fn decipher_word(keys: [u64; 16], x: u64) -> u64
 }
 
 // Eight bytes as one word, the first the most significant, and back.
+// By `octets`: byte arithmetic stands in one place.
 pub fn load(b: [u8; 8]) -> u64
     ensures { bits 64 result ≡ bits_of_bytes b }
 {

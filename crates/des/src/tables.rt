@@ -1,6 +1,4 @@
 // The tables of FIPS 46-3. An entry of a permutation is the number of a bit of its input, counted from 1, the most significant first. That each is the table of specs/Tables.antt is shown where it is used.
-ghost use Rattle.std.specs.Prelude.{◌≡◌};
-ghost use Rattle.des.specs.Tables.{e, p, pc2, sboxes};
 
 // The initial permutation: entry k is the bit of the input that becomes bit k + 1 (FIPS 46-3, "Enciphering").
 pub const IP: [u8; 64] = [
@@ -79,29 +77,3 @@ pub const SBOXES: [u8; 512] = [
     0, 14, 9, 2, 7, 11, 4, 1, 9, 12, 14, 2, 0, 6, 10, 13, 15, 3, 5, 8, 2, 1, 14, 7, 4, 10, 8, 13,
     15, 12, 9, 0, 3, 5, 6, 11,
 ];
-
-// ---- the tables that every iteration uses: a call writes one out, so a block makes one of each and lends it
-
-pub fn e_table() -> [u8; 48]
-    ensures { result ≡ e }
-{
-    E
-}
-
-pub fn p_table() -> [u8; 32]
-    ensures { result ≡ p }
-{
-    P
-}
-
-pub fn pc2_table() -> [u8; 48]
-    ensures { result ≡ pc2 }
-{
-    PC2
-}
-
-pub fn box_table() -> [u8; 512]
-    ensures { result ≡ sboxes }
-{
-    SBOXES
-}

@@ -178,7 +178,7 @@ seen_none x =
 abbrev pub Chosen : ℕ → ℕ → ℕ → ℕ → Type 0
 Chosen n x i r = Holds 48 r (permute pc2 (shift_both n (seen i (bits 56 x))))
 
-pub chosen-start : (n x : ℕ) → bits 48 0 ≡ permute pc2 (shift_both n (zeros 56)) → Chosen n x 0 0
+chosen-start : (n x : ℕ) → bits 48 0 ≡ permute pc2 (shift_both n (zeros 56)) → Chosen n x 0 0
 chosen-start n x h = record { fits = lit< tt; same = h ∙ ap (λ (l : List ℕ). permute pc2 (shift_both n l)) (sym (seen_none x)) }
 
 pub chosen-step : (n i x : ℕ) {r q : ℕ} → i < 7 → Chosen n x i r
@@ -192,6 +192,14 @@ chosen-step n i x h hr hq =
     let long : length (two_groups i c d) ≡ 56 = length_xor (placed 56 i (bits 4 c)) (placed 56 (7 + i) (bits 4 d)) (omega (arith, lc, ld)) ∙ lc in
     recast (xored 48 hr hq)
     (sym (chosen_xor n (seen i s) (two_groups i c d) (long-seen i s (length-bits 56 x)) long) ∙ ap (λ (l : List ℕ). permute pc2 (shift_both n l)) (seen_more i x h))
+
+-- words that hold it behind shifts by 0, 4, 8 and 12
+abbrev pub ChosenBy : ℕ → ℕ → ℕ → ℕ → ℕ → ℕ → Type 0
+ChosenBy x i r0 r4 r8 r12 = Chosen 0 x i r0 × Chosen 4 x i r4 × Chosen 8 x i r8 × Chosen 12 x i r12
+
+pub chosen-none : (x : ℕ) → ChosenBy x 0 0 0 0 0
+unfolding bits permute pc2 swap shift_both zeros
+chosen-none x = (chosen-start 0 x refl, chosen-start 4 x refl, chosen-start 8 x refl, chosen-start 12 x refl)
 
 pub chosen-end : (n x : ℕ) {r i : ℕ} → i ≡ 7 → Chosen n x i r → Holds 48 r (permute pc2 (shift_both n (bits 56 x)))
 chosen-end n x e h = recast h (ap (λ (l : List ℕ). permute pc2 (shift_both n l)) (ap (λ (j : ℕ). seen j (bits 56 x)) e ∙ seen_all x))

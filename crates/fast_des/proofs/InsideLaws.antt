@@ -1,22 +1,25 @@
 -- A block inside DES: what one word of each half becomes, and why the permutations between blocks cancel.
 -- Assumes nothing.
-use mathlib.Core.Path.{◌≡◌, refl, sym, ap, ap₂, ◌∙◌, subst}
+use mathlib.Core.Path.{◌≡◌, refl, sym, ap, ap₂, ◌∙◌, subst, subst⁻¹}
 use mathlib.Core.Bool.{Bool, true, false}
 use mathlib.Core.List.{List, [], ◌∷◌, ◌++◌}
-use Prim.Native.Nat.{ℕ, zero, suc, ◌+◌, ◌*◌, ◌/◌, ◌%◌, ◌^◌}
+use Prim.Native.Nat.{ℕ, zero, suc, ◌+◌, ◌*◌, ◌/◌, ◌%◌, ◌^◌, ◌≤◌, ◌<◌}
 use native.Mathlib.Omega.{arith}
 use native.Mathlib.Numerals.{add-one}
 use lib.Bits.{bit_or, bit_xor}
 use lib.Dec.{lit≤}
-use lib.ListN.{length, get_or, take, drop, length-append, take-append-drop}
-use lib.Seq.{take_at, drop_at}
+use lib.ListN.{length, get_or, set, take, drop, length-append, length-set, take-append-drop}
+use lib.Seq.{take_at, drop_at, get_or-set_same, get_or-set_other}
+use Rattle.std.proofs.lemmas.List.{get_or_default}
+use borrow.Author.Count.{below_more}
+use native.Mathlib.Nat.{not-suc-le-zero}
 use Rattle.des.specs.Bits.{bits, xor_bits}
 use Rattle.des.specs.Tables.{e, p, ip, ip_inverse}
 use Rattle.des.specs.Des.{permute, selects, cipher_function, swap, round, rounds, cipher}
 use Rattle.des.specs.Words.{keys_of, Holds, turned}
 use Rattle.fast_des.specs.Networks.{middle}
 use Rattle.fast_des.specs.declared.Halves.{Halves}
-use Rattle.fast_des.specs.Inside.{Sides, Entered, Leaves, Adds, Rounds, Iterates, Passes, EnciphersInside, DeciphersInside}
+use Rattle.fast_des.specs.Inside.{Sides, Entered, Leaves, Adds, Rounds, Iterates, Passes, EnciphersInside, DeciphersInside, Each}
 use Rattle.des.proofs.BitLaws.{take-bits, drop_bits, length-bits, xor_bits_lem}
 use Rattle.des.proofs.BlockLaws.{length-permute, length_xor, length-f}
 use Rattle.des.proofs.KeyLaws.{enciphers, deciphers}
@@ -64,6 +67,40 @@ iterate_more h s r keys back n at e i o =
           subst (λ (m : ℕ). Sides r (rounds (keys_of keys back) m lr)) (sym (add-one n))
           (subst (λ (m : ℕ). Sides r (round (bits 48 (get_or keys m 0)) (rounds (keys_of keys back) n lr))) e (o.by (rounds (keys_of keys back) n lr) (i.by lr b)));
     }
+
+-- ---- blocks side by side, one after another
+
+-- R holds of the first k, and Q of the others
+pub record Partly (R Q : Halves → Halves → Type 0) (k : ℕ) (hs rs : List Halves) : Type 0 where
+  pub long : length rs ≡ length hs
+  pub before : (i : ℕ) (h : Halves) → i < k → i < length hs → R (get_or hs i h) (get_or rs i h)
+  pub behind : (i : ℕ) (h : Halves) → k ≤ i → i < length hs → Q (get_or hs i h) (get_or rs i h)
+
+pub partly-none : (R Q : Halves → Halves → Type 0) (hs rs : List Halves) → Each Q hs rs → Partly R Q 0 hs rs
+partly-none R Q hs rs o = record { long = o.long; before = λ i h l m. absurd (not-suc-le-zero l); behind = λ i h l m. o.by i h m }
+
+pub partly-more : (R Q : Halves → Halves → Type 0) (k : ℕ) (hs rs : List Halves) (d r : Halves) → k < length hs → Partly R Q k hs rs → ((h : Halves) → Q h (get_or rs k d) → R h r) → Partly R Q (k + 1) hs (set rs k r)
+partly-more R Q k hs rs d r l held o =
+    record {
+      long = length-set rs k r ∙ held.long;
+      before =
+          λ i h m b. below_more (λ (j : ℕ). j < length hs → R (get_or hs j h) (get_or (set rs k r) j h)) k
+          (λ j lt w. subst⁻¹ (R (get_or hs j h)) (get_or-set_other rs k j r h (λ (p : j ≡ k). omega arith)) (held.before j h lt w))
+          (λ w.
+          subst⁻¹ (R (get_or hs k h)) (get_or-set_same rs k r h (omega (arith, held.long)))
+          (o (get_or hs k h) (subst (Q (get_or hs k h)) (get_or_default rs k h d (omega (arith, held.long))) (held.behind k h (omega arith) w))))
+          i m b;
+      behind = λ i h m b. subst⁻¹ (Q (get_or hs i h)) (get_or-set_other rs k i r h (λ (p : i ≡ k). omega arith)) (held.behind i h (omega arith) b);
+    }
+
+pub partly-all : (R Q : Halves → Halves → Type 0) (k : ℕ) (hs rs : List Halves) → k ≡ length hs → Partly R Q k hs rs → Each R hs rs
+partly-all R Q k hs rs e held = record { long = held.long; by = λ i h m. held.before i h (omega arith) m }
+
+pub each-none : (keys : List ℕ) (back : Bool) (hs : List Halves) → Each (λ h r. Iterates h keys back 0 r) hs hs
+each-none keys back hs = record { long = refl; by = λ i h m. iterate_none (get_or hs i h) keys back }
+
+pub each-by : (R Q : Halves → Halves → Type 0) (hs rs : List Halves) → ((h r : Halves) → Q h r → R h r) → Each Q hs rs → Each R hs rs
+each-by R Q hs rs f o = record { long = o.long; by = λ i h m. f (get_or hs i h) (get_or rs i h) (o.by i h m) }
 
 -- ---- the halves exchanged; the inverse of IP, and IP of what comes next, cancel
 

@@ -6,7 +6,7 @@ use mathlib.Core.List.{List, [], ◌∷◌, ◌++◌, map}
 use Prim.Native.Nat.{ℕ, zero, suc, ◌+◌, ◌-◌, ◌*◌, ◌/◌, ◌%◌, ◌^◌, ◌≤◌, ◌<◌}
 use native.Mathlib.Nat.{le_of_suc-le-suc, not-suc-le-zero, div-lt_iff_lt-mul}
 use native.Mathlib.Omega.{arith}
-use lib.Bits.{bit_and, bit_xor}
+use lib.Bits.{bit_and, bit_xor, xor_comm}
 use lib.Dec.{ltb, lit<}
 use lib.Pow.{pow_pos}
 use borrow.Author.Tests.{ltb-true, ltb-false}
@@ -230,7 +230,7 @@ boxes_start y =
     subst⁻¹ (λ (l : List ℕ). Holds 48 0 (permute e (permute p l))) z (record { fits = lit< tt; same = refl })
 
 pub boxes_step : (k x : ℕ) {r q : ℕ} → 0 < k → k ≤ 8 → Holds 48 r (permute e (permute p (keep (4 * k) 32 (selects 8 (bits 48 x)))))
-    → Holds 48 q (permute e (moved (k - 1) (bit_and (x / 2 ^ (42 - 6 * (k - 1))) 63))) → Holds 48 (bit_xor q r) (permute e (permute p (keep (4 * (k - 1)) 32 (selects 8 (bits 48 x)))))
+    → Holds 48 q (permute e (moved (k - 1) (bit_and (x / 2 ^ (42 - 6 * (k - 1))) 63))) → Holds 48 (bit_xor r q) (permute e (permute p (keep (4 * (k - 1)) 32 (selects 8 (bits 48 x)))))
 unfolding moved
 boxes_step k x {r} {q} h l hr hq =
     let j = k - 1 in
@@ -242,7 +242,10 @@ boxes_step k x {r} {q} h l hr hq =
     let one : placed 32 j (select j (bits 6 g)) ≡ keep (4 * j) (4 * k) s =
     ap (λ (b : List ℕ). placed 32 j (select j b)) box ∙ ap (placed 32 j) (sym (selects-part 8 j (bits 48 x) (omega arith)))
     ∙ sym (keep-placed 32 j s (length-selects 8 (bits 48 x)) (omega arith)) ∙ ap (λ (m : ℕ). keep (4 * j) m s) n in
-    merged (λ a. permute e (permute p a)) expanded_xor 48 (4 * j) (4 * k) 32 s (omega arith) (omega arith) (small-selects 8 (bits 48 x)) (recast hq (ap (λ (a : List ℕ). permute e (permute p a)) one)) hr
+    subst (λ (m : ℕ). Holds 48 m (permute e (permute p (keep (4 * j) 32 s)))) (xor_comm q r)
+    (merged (λ a. permute e (permute p a)) expanded_xor 48 (4 * j) (4 * k) 32 s (omega arith) (omega arith) (small-selects 8 (bits 48 x)) (recast hq (ap (λ (a : List ℕ). permute e (permute p a)) one)) hr)
 
-pub boxes_end : (y : List ℕ) {r : ℕ} → Holds 48 r (permute e (permute p (keep 0 32 (selects 8 y)))) → Holds 48 r (permute e (permute p (selects 8 y)))
-boxes_end y h = recast h (ap (λ (a : List ℕ). permute e (permute p a)) (keep_all 32 (selects 8 y) (length-selects 8 y)))
+pub boxes_end : (y : List ℕ) {r k : ℕ} → k ≡ 0 → Holds 48 r (permute e (permute p (keep (4 * k) 32 (selects 8 y)))) → Holds 48 r (permute e (permute p (selects 8 y)))
+boxes_end y {r} {k} z h =
+    let o : 4 * k ≡ 0 = omega arith in
+    recast h (ap (λ (m : ℕ). permute e (permute p (keep m 32 (selects 8 y)))) o ∙ ap (λ (a : List ℕ). permute e (permute p a)) (keep_all 32 (selects 8 y) (length-selects 8 y)))

@@ -1,6 +1,6 @@
 -- A block inside DES, between IP and its inverse: two words, each the expansion E of a half. The inverse of IP of one block and the IP of the next cancel.
 -- Assumes nothing.
-use Rattle.std.specs.Prelude.{◌≡◌, Bool, List, ℕ, length, take, drop}
+use Rattle.std.specs.Prelude.{◌≡◌, Bool, List, ℕ, ◌<◌, length, take, drop, get_or}
 use Rattle.des.specs.Bits.{bits, xor_bits}
 use Rattle.des.specs.Tables.{e, ip}
 use Rattle.des.specs.Des.{permute, round, rounds, cipher, encipher_bits, decipher_bits}
@@ -46,3 +46,8 @@ pub record EnciphersInside (h : Halves) (ks : List ℕ) (r : Halves) : Type 0 wh
 
 pub record DeciphersInside (h : Halves) (ks : List ℕ) (r : Halves) : Type 0 where
   pub by : (key bs : List ℕ) → Keys key ks → Entered h bs → Entered r (decipher_bits key bs)
+
+-- blocks side by side: R holds of each of hs and what it became
+pub record Each (R : Halves → Halves → Type 0) (hs rs : List Halves) : Type 0 where
+  pub long : length rs ≡ length hs
+  pub by : (i : ℕ) (h : Halves) → i < length hs → R (get_or hs i h) (get_or rs i h)

@@ -5,7 +5,9 @@ ghost use Rattle.des.specs.Tables.{ip, ip_inverse, e, pc1, pc2};
 ghost use Rattle.des.specs.Des.{permute as permuted, shift_both};
 ghost use Rattle.des.specs.Words.{Holds};
 ghost use Rattle.fast_des.specs.Networks.{exchange_bits, spread_parts, gather_parts, middle};
-ghost use Rattle.fast_des.specs.Joined.{placed, pc2_groups};
+ghost use Rattle.fast_des.specs.Joined.{placed};
+
+use crate::groups_table;
 
 // The bits that m names exchanged with those d places above them.
 fn exchange_bits(x: u64, d: u64, m: u64) -> u64
@@ -45,6 +47,7 @@ fn spread(x: u64, high: u64, n: u64, low: u64) -> u64
 }
 
 // The bits that `high` names n places down, those that `low` names where they are.
+// As spread, the other way: two definitions (spread_parts, gather_parts).
 fn gather(x: u64, high: u64, n: u64, low: u64) -> u64
     requires { n < 64 }
     ensures { result ≡ gather_parts high n low x }
@@ -89,49 +92,34 @@ pub fn choice1(x: u64) -> u64
     c ^ d
 }
 
-// The keys of four iterations: permuted choice 2 of one word shifted by 0, 4, 8 and 12 places.
-#[derive(Clone, Copy)]
-pub struct FourKeys {
-    pub none: u64,
-    pub four: u64,
-    pub eight: u64,
-    pub twelve: u64,
-}
-
 // Permuted choice 2 of group i of C and of D, c and d, when both are shifted by k groups: two entries of its table, since such a shift only moves the groups.
-fn choose(i: usize, k: usize, c: u64, d: u64, groups: &[u64]) -> u64
-    requires { ((i < 7) × (k < 4)) × (((c < 16) × (d < 16)) × (groups.now ≡ pc2_groups)) }
+fn choose(i: usize, k: usize, c: u64, d: u64) -> u64
+    requires { ((i < 7) × (k < 4)) × ((c < 16) × (d < 16)) }
     ensures { Holds 48 result (permuted pc2 (shift_both (4 * k) (xor_bits (placed 56 i (bits 4 c)) (placed 56 (7 + i) (bits 4 d))))) }
 {
     let group = (i + 7 - k) % 7;
     let left = 16 * group + (c as usize);
     let right = 16 * (7 + group) + (d as usize);
+    let groups = groups_table();
     groups[left] ^ groups[right]
 }
 
-// Each group of four bits is taken out once for four keys.
-pub fn choices(x: u64, groups: &[u64]) -> FourKeys
-    requires { groups.now ≡ pc2_groups }
-    ensures { ((Holds 48 result.none (permuted pc2 (shift_both 0 (bits 56 x)))) × (Holds 48 result.four (permuted pc2 (shift_both 4 (bits 56 x))))) × ((Holds 48 result.eight (permuted pc2 (shift_both 8 (bits 56 x)))) × (Holds 48 result.twelve (permuted pc2 (shift_both 12 (bits 56 x))))) }
+// The keys of four iterations: permuted choice 2 of one word shifted by 0, 4, 8 and 12 places. Each group of four bits is taken out once for all four.
+pub fn choices(x: u64) -> (u64, u64, u64, u64)
+    ensures { Holds 48 result.0 (permuted pc2 (shift_both 0 (bits 56 x))) × Holds 48 result.1 (permuted pc2 (shift_both 4 (bits 56 x))) × Holds 48 result.2 (permuted pc2 (shift_both 8 (bits 56 x))) × Holds 48 result.3 (permuted pc2 (shift_both 12 (bits 56 x))) }
 {
-    let mut none: u64 = 0;
-    let mut four: u64 = 0;
-    let mut eight: u64 = 0;
-    let mut twelve: u64 = 0;
-    let mut i: usize = 0;
-    while i < 7 {
+    // Four variables, handed out as a tuple: with an array here a schedule takes 144 instructions more, and with one handed out 16.
+    let mut none = 0;
+    let mut four = 0;
+    let mut eight = 0;
+    let mut twelve = 0;
+    for i in 0..7 {
         let c = (x >> (52 - 4 * (i as u64))) & 15;
         let d = (x >> (24 - 4 * (i as u64))) & 15;
-        none = none ^ choose(i, 0, c, d, groups);
-        four = four ^ choose(i, 1, c, d, groups);
-        eight = eight ^ choose(i, 2, c, d, groups);
-        twelve = twelve ^ choose(i, 3, c, d, groups);
-        i += 1;
+        none ^= choose(i, 0, c, d);
+        four ^= choose(i, 1, c, d);
+        eight ^= choose(i, 2, c, d);
+        twelve ^= choose(i, 3, c, d);
     }
-    FourKeys {
-        none,
-        four,
-        eight,
-        twelve,
-    }
+    (none, four, eight, twelve)
 }

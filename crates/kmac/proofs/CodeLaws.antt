@@ -12,43 +12,30 @@ use mir.Syntax.{w32}
 use mir.Val.{SFits, to_z, of_z}
 use mir.ValLaws.{to_z-of_z}
 use Rattle.octets.specs.Bytes.{between}
+use Rattle.std.specs.Prelude.{Option, Some, None}
 use Rattle.octets.proofs.BoolLaws.{between-true}
 use Rattle.refusal.specs.House.{Answer, gives}
-use Rattle.refusal.specs.Code.{code}
 use Rattle.refusal.proofs.Laws.{asks-gives, gives-number}
-use Rattle.refusal.proofs.CodeLaws.{negative}
-use Rattle.store.specs.declared.Edition.{Edition}
-use Rattle.store.specs.declared.Edition.TheVariants.{Known, Unknown}
+use Rattle.store.specs.declared.Limits.{Limits}
 use Rattle.store.specs.Layout.{edition_of}
 use Rattle.store.specs.Search.{Finding, found, find, find_in}
-use Rattle.store.proofs.SearchLaws.{edition_of-says, not_found}
+use Rattle.store.proofs.SearchLaws.{edition_says, not_found}
 use Rattle.store.proofs.Theorems.{whole-key}
-use Rattle.convert.specs.Convert.{converted_as}
-use Rattle.convert.specs.declared.Converted.{Converted}
-use Rattle.convert.specs.declared.Converted.TheVariants.{Done, Refused}
 use Rattle.authentication.specs.Unit.{built, checked}
 use Rattle.authentication.proofs.AnswerLaws.{passed}
 use Rattle.kmac.specs.Code.{end_after}
 use Rattle.kmac.specs.Claims.{RefusedFindLeavesEnd}
 
--- what is told of a conversion
-conversion-fits : (r : Converted) → SFits w32 (code (converted_as r))
-conversion-fits Done = record { sfits = lit< tt }
-conversion-fits (Refused h) = subst (λ (z : ℤ). SFits w32 z) (negative h).is (negative h).fits
-
-pub told-converted : {a : Answer} (r : Converted) (z : ℤ) → z ≡ code (converted_as r) → converted_as r ≡ a → to_z w32 (of_z w32 z) ≡ code a
-told-converted r z q e = to_z-of_z w32 z (subst (λ (x : ℤ). SFits w32 x) (sym q) (conversion-fits r)) ∙ q ∙ ap code e
-
 -- ---- the answers are small numbers
 
-pub place-small : (s : List ℕ) (peer t p until : ℕ) → find s peer t ≡ found p until → p < 2 ^ 31
+pub place_small : (s : List ℕ) (peer t p until : ℕ) → find s peer t ≡ found p until → p < 2 ^ 31
 unfolding find find_in
-place-small s peer t p until e = known (edition_of (length s)) refl e
+place_small s peer t p until e = known (edition_of (length s)) refl e
   where
-    known : (E : Edition) → edition_of (length s) ≡ E → find_in E s peer t ≡ found p until → p < 2 ^ 31
-    known Unknown h q = not_found 1 p until q
-    known (Known L) h q =
-        let b = edition_of-says (length s) L h in
+    known : (E : Option Limits) → edition_of (length s) ≡ E → find_in E s peer t ≡ found p until → p < 2 ^ 31
+    known None h q = not_found 1 p until q
+    known (Some L) h q =
+        let b = edition_says (length s) L h in
         let at = whole-key.inside s peer t p until e in
         omega (arith, b.0.total_fits, b.1)
 
@@ -57,9 +44,9 @@ data_small unit key destination direction n e =
     let p = passed unit key destination direction n e in
     omega (arith, p.number, (between-true 9 1032 (length unit) p.long).1)
 
-pub unit-small : (key user out : List ℕ) (n : ℕ) → built key user out ≡ gives n → n < 2 ^ 31
+pub unit_small : (key user out : List ℕ) (n : ℕ) → built key user out ≡ gives n → n < 2 ^ 31
 unfolding built
-unit-small key user out n e =
+unit_small key user out n e =
     let keyed = asks-gives (eqb (length key) 24) 13 _ n e in
     let lent = asks-gives (leb 1032 (length out)) 2 _ n keyed.1 in
     let few = asks-gives (between 1 1023 (length user)) 10 _ n lent.1 in

@@ -13,10 +13,7 @@ ghost use Rattle.authentication.specs.Keys.{derived, session_keys};
 ghost use Rattle.authentication.specs.Unit.{built, buffer, unit_of, checked};
 ghost use Rattle.kmac.specs.Code.{version, end_after};
 
-use authentication::{Built, Checked, Derived};
-use convert::Converted;
-use refusal::refusal_code;
-use store::{Emptied, Found};
+use refusal::told;
 
 mod connection;
 mod sessions;
@@ -37,7 +34,7 @@ pub extern "C" fn kmac_version() -> i32
 pub extern "C" fn kmac_self_test() -> i32
     ensures { result ≡ code (gives 0) }
 {
-    if self_test::self_test() { 0 } else { 0 - 1 }
+    if self_test::self_test() { 0 } else { -1 }
 }
 
 // Enciphers a block.
@@ -58,17 +55,16 @@ pub extern "C" fn kmac_des_decipher(key: &[u8; 8], block: &[u8; 8], res: &mut [u
 
 // The place of the key for a peer at the moment t; its end is written where there is one.
 #[unsafe(no_mangle)]
+#[tactic(auto, using(crate::proofs::CodeLaws::place_small))]
 pub extern "C" fn kmac_find(store: &[u8], peer: u32, t: u32, end: &mut u32) -> i32
     ensures value { result ≡ code (place_in (find store.now peer t)) }
     ensures end_after { «end».new ≡ end_after (find store.now peer t) «end».old }
 {
-    match store::find(store, peer, t) {
-        Found::At(n, e) => {
-            *end = e;
-            n as i32
-        }
-        Found::Refused(h) => refusal_code(h),
+    let found = store::find(store, peer, t);
+    if let Ok(place) = found {
+        *end = place.end;
     }
+    told(found.map(|at| at.place))
 }
 
 // Writes the empty store of the buffer's length.
@@ -76,20 +72,7 @@ pub extern "C" fn kmac_find(store: &[u8], peer: u32, t: u32, end: &mut u32) -> i
 pub extern "C" fn kmac_empty_store(store: &mut [u8]) -> i32
     ensures { (result ≡ code (empty_in (edition_of (length store.old)))) × (store.new ≡ emptied (edition_of (length store.old)) store.old) }
 {
-    match store::empty(store) {
-        Emptied::Done => 0,
-        Emptied::Refused(h) => refusal_code(h),
-    }
-}
-
-// What C is told of a conversion.
-fn told_conversion(answer: Converted) -> i32
-    ensures { result ≡ code (converted_as answer) }
-{
-    match answer {
-        Converted::Done => 0,
-        Converted::Refused(h) => refusal_code(h),
-    }
+    told(store::empty(store).map(|_| 0))
 }
 
 // Makes a store of edition 1 one of edition 2.
@@ -98,7 +81,7 @@ pub extern "C" fn kmac_to_edition2(from: &[u8], to: &mut [u8]) -> i32
     ensures value { result ≡ code (answered edition1 edition2 from.now to.old) }
     ensures to_after { to.new ≡ converted edition1 edition2 from.now to.old }
 {
-    told_conversion(convert::to_edition2(from, to))
+    told(convert::to_edition2(from, to).map(|_| 0))
 }
 
 // Makes a store of edition 2 one of edition 1, where its keys and peers have room there.
@@ -107,18 +90,16 @@ pub extern "C" fn kmac_to_edition1(from: &[u8], to: &mut [u8]) -> i32
     ensures value { result ≡ code (answered edition2 edition1 from.now to.old) }
     ensures to_after { to.new ≡ converted edition2 edition1 from.now to.old }
 {
-    told_conversion(convert::to_edition1(from, to))
+    told(convert::to_edition1(from, to).map(|_| 0))
 }
 
 // Checks a unit: the length of its user data, which start at byte 1.
 #[unsafe(no_mangle)]
+#[tactic(auto, using(crate::proofs::CodeLaws::data_small))]
 pub extern "C" fn kmac_check(unit: &[u8], key: &[u8], destination: &[u8; 3], direction: u8) -> i32
     ensures { result ≡ code (checked unit.now key.now destination.now (nonzero direction)) }
 {
-    match authentication::check(unit, key, *destination, direction != 0) {
-        Checked::Accepted(n) => n as i32,
-        Checked::Refused(h) => refusal_code(h),
-    }
+    told(authentication::check(unit, key, *destination, direction != 0))
 }
 
 // Derives the session keys, and writes them where it does not refuse.
@@ -132,20 +113,18 @@ pub extern "C" fn kmac_session_keys(
     ensures value { result ≡ code (derived kmac.now) }
     ensures keys_after { keys.new ≡ unless_refused (derived kmac.now) (session_keys kmac.now ra.now rb.now) keys.old }
 {
-    let made = authentication::session_keys(kmac, *ra, *rb);
-    let answer = made.answer;
-    let key = made.key;
-    match answer {
-        Derived::Made => {
-            *keys = key;
+    match authentication::session_keys(kmac, *ra, *rb) {
+        Ok(made) => {
+            *keys = made;
             0
         }
-        Derived::Refused(h) => refusal_code(h),
+        Err(h) => i32::from(h),
     }
 }
 
 // Builds a unit at the front of out.
 #[unsafe(no_mangle)]
+#[tactic(auto, using(crate::proofs::CodeLaws::unit_small))]
 pub extern "C" fn kmac_build(
     key: &[u8],
     destination: &[u8; 3],
@@ -156,8 +135,5 @@ pub extern "C" fn kmac_build(
     ensures value { result ≡ code (built key.now user.now out.old) }
     ensures out_after { out.new ≡ buffer (built key.now user.now out.old) (unit_of key.now destination.now (nonzero direction) user.now) out.old }
 {
-    match authentication::build(key, *destination, direction != 0, user, out) {
-        Built::Written(n) => n as i32,
-        Built::Refused(h) => refusal_code(h),
-    }
+    told(authentication::build(key, *destination, direction != 0, user, out))
 }

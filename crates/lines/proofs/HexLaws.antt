@@ -13,7 +13,7 @@ use lib.Seq.{take-suc, take_all, take-nil, length-take-le}
 use native.Mathlib.Nat.{zero-add, min-eq_left, min-eq_right, min-le_left, min-le_right}
 use Rattle.octets.specs.Bytes.{splice}
 use Rattle.octets.proofs.SpliceLaws.{splice_turn, splice-none, splice-length}
-use Rattle.lines.specs.Digits.{digit, are_digits, glyph, from_hex, bytes_of, to_hex, Puts}
+use Rattle.lines.specs.Digits.{worth, are_digits, glyph, from_hex, bytes_of, to_hex, Puts}
 
 -- ---- what is written
 
@@ -56,7 +56,7 @@ all_read s d d' n e k w =
     let l : n ≡ min (length (from_hex s)) (length d) = k ∙ ap (λ (x : ℕ). min x (length d)) (sym (length-from_hex s)) in
     rw (e, ← take-least (from_hex s) n (length d) l) (puts_all (take n (from_hex s)) d d' n (sym (length-take-le n (from_hex s) (omega (arith, min-le_left (length (from_hex s)) (length d))))) (omega (arith, min-le_right (length (from_hex s)) (length d))) w)
 
-pub from_hex-at : (s : List ℕ) (i : ℕ) → 2 * i + 1 < length s → get_or (from_hex s) i 0 ≡ digit (get_or s (2 * i) 0) * 16 + digit (get_or s (2 * i + 1) 0)
+pub from_hex-at : (s : List ℕ) (i : ℕ) → 2 * i + 1 < length s → get_or (from_hex s) i 0 ≡ worth (get_or s (2 * i) 0) * 16 + worth (get_or s (2 * i + 1) 0)
 unfolding from_hex
 from_hex-at [] i h = omega arith
 from_hex-at (a ∷ []) i h = omega arith
@@ -65,11 +65,11 @@ from_hex-at (a ∷ b ∷ s) (suc i) h =
     let e : 2 * suc i ≡ suc (suc (2 * i)) = omega arith in
     let f : 2 * suc i + 1 ≡ suc (suc (2 * i + 1)) = omega arith in
     from_hex-at s i (omega arith)
-    ∙ ap₂ (λ (x y : ℕ). digit (get_or (a ∷ b ∷ s) x 0) * 16 + digit (get_or (a ∷ b ∷ s) y 0)) (sym e) (sym f)
+    ∙ ap₂ (λ (x y : ℕ). worth (get_or (a ∷ b ∷ s) x 0) * 16 + worth (get_or (a ∷ b ∷ s) y 0)) (sym e) (sym f)
 
 -- one more of the n bytes of a text
 more_bytes : (s : List ℕ) (i : ℕ) → 2 * i + 1 < length s
-    → take i (from_hex s) ++ ((digit (get_or s (2 * i) 0) * 16 + digit (get_or s (2 * i + 1) 0)) ∷ []) ≡ take (i + 1) (from_hex s)
+    → take i (from_hex s) ++ ((worth (get_or s (2 * i) 0) * 16 + worth (get_or s (2 * i + 1) 0)) ∷ []) ≡ take (i + 1) (from_hex s)
 more_bytes s i h =
     let l : i < length (from_hex s) = omega (arith, length-from_hex s) in
     ap (λ (x : ℕ). take i (from_hex s) ++ (x ∷ [])) (sym (from_hex-at s i h))
@@ -78,7 +78,7 @@ more_bytes s i h =
 
 -- a turn of the loop that writes them to d, which is t so far; a and b are the values of the two digits
 pub bytes_turn : (s d t : List ℕ) (i a b : ℕ) → 2 * i + 1 < length s → i < length d
-    → a ≡ digit (get_or s (2 * i) 0) → b ≡ digit (get_or s (2 * i + 1) 0) → t ≡ splice d 0 (take i (from_hex s))
+    → a ≡ worth (get_or s (2 * i) 0) → b ≡ worth (get_or s (2 * i + 1) 0) → t ≡ splice d 0 (take i (from_hex s))
     → set t i (a * 16 + b) ≡ splice d 0 (take (i + 1) (from_hex s))
 bytes_turn s d t i a b h l p q e =
     let n : length (take i (from_hex s)) ≡ i = length-take-le i (from_hex s) (omega (arith, length-from_hex s)) in

@@ -1,6 +1,4 @@
 pub mod DigitLaws
 pub mod HexLaws
 pub mod WordLaws
-pub mod FieldLaws
-pub mod OrderLaws
 pub mod Theorems

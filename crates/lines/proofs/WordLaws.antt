@@ -1,39 +1,57 @@
--- Laws of the search for a class of bytes, of words and of texts that are the same.
+-- Laws of the search for a class of bytes, and of words.
 -- Assumes nothing.
-use mathlib.Core.Bool.{Bool, true, false, ◌&&◌}
-use mathlib.Core.Path.{◌≡◌, refl, sym, ap, ◌∙◌}
-use mathlib.Core.List.{List, [], ◌∷◌}
-use Prim.Native.Nat.{ℕ, suc, ◌+◌, ◌-◌, ◌≤◌, ◌<◌}
-use native.Mathlib.Numerals.{add-one}
-use native.Mathlib.Omega.{arith}
-use lib.ListN.{length, get_or, take, drop, drop_of_length-le}
-use lib.Seq.{drop-cons}
-use lib.Dec.{eqb}
-use borrow.Author.Tests.{eq-eqb, ne_eqb}
-use Rattle.octets.specs.Bytes.{part, same}
-use Rattle.octets.proofs.BoolLaws.{and_false_right}
-use Rattle.lines.specs.Digits.{pick_number}
-use Rattle.lines.specs.Words.{in_class, before, first_from, word_start, word}
+use Rattle.std.proofs.Common.{◌≡◌, ℕ, suc, ◌+◌, ◌-◌, ◌≤◌, Bool, true, false, not, cond, List, [], ◌∷◌, Option, Some, None, length, take, drop, length-drop, take_all, refl, sym, ap, ◌∙◌, add-one, arith}
+use Rattle.std.specs.Prelude.{nat_lt}
+use Rattle.std.specs.List.{position, position_or_len}
+use Rattle.std.proofs.lemmas.Option.{cond_some}
+use borrow.Author.Tests.{ltb-false}
+use Rattle.octets.specs.Bytes.{part}
+use Rattle.lines.specs.Words.{in_class, before, first_from, First, word_start, word}
 use Rattle.lines.specs.declared.words.Class.{Class}
 use Rattle.lines.specs.declared.words.Class.TheVariants.{Blank, Letter}
 
 -- ---- the first element of a class
 
-module _ (c : Class) (s : List ℕ) (i : ℕ) where
-  first_open : i < length s → first_from c s i ≡ i + pick_number (in_class c (get_or s i 0)) 0 (suc (before c (drop (i + 1) s)))
-  unfolding first_from before
-  first_open h = rw (add-one, drop-cons s i 0 h)
+before_is : (c : Class) (s : List ℕ) → before c s ≡ position_or_len (in_class c) s
+unfolding before
+before_is c [] = refl
+before_is c (b ∷ s) = one_more (in_class c b) (before_is c s)
+  where
+    one_more : (t : Bool) {m n : ℕ} → m ≡ n → cond t 0 (suc m) ≡ cond (not t) (1 + n) 0
+    one_more true e = refl
+    one_more false e = omega arith
 
-  pub first-here : i < length s → in_class c (get_or s i 0) ≡ true → first_from c s i ≡ i
-  first-here h e = first_open h ∙ ap (λ (b : Bool). i + pick_number b 0 (suc (before c (drop (i + 1) s)))) e ∙ omega arith
+before_most : (c : Class) (s : List ℕ) → before c s ≤ length s
+unfolding before
+before_most c [] = omega arith
+before_most c (b ∷ s) = one_more (in_class c b) (before_most c s)
+  where
+    one_more : (t : Bool) {m n : ℕ} → m ≤ n → cond t 0 (suc m) ≤ suc n
+    one_more true h = omega arith
+    one_more false h = omega arith
 
-  pub first_turn : i < length s → in_class c (get_or s i 0) ≡ false → first_from c s i ≡ first_from c s (i + 1)
+cond_none : {A : Type 0} (b : Bool) (x : A) → cond b (Some x) None ≡ None → b ≡ false
+cond_none true x e = cc
+cond_none false x e = refl
+
+-- what is found from index i on
+module _ (c : Class) (s : List ℕ) (i : ℕ) (h : i ≤ length s) where
+  from_i : (r : Option ℕ) → r ≡ position (in_class c) (take (length s - i) (drop i s)) → position (in_class c) (drop i s) ≡ r
+  from_i r e = ap (position (in_class c)) (sym (take_all (length s - i) (drop i s) (omega (arith, length-drop i s)))) ∙ sym e
+
+  pub first_found : (n : ℕ) → Some n ≡ position (in_class c) (take (length s - i) (drop i s)) → First c s i (i + n)
   unfolding first_from
-  first_turn h e = first_open h ∙ ap (λ (b : Bool). i + pick_number b 0 (suc (before c (drop (i + 1) s)))) e ∙ omega arith
+  first_found n e =
+      let p = cond_some (nat_lt (position_or_len (in_class c) (drop i s)) (length (drop i s))) (position_or_len (in_class c) (drop i s)) n (from_i (Some n) e) in
+      let b : before c (drop i s) ≡ n = before_is c (drop i s) ∙ p.1 in
+      record { is = omega arith; least = omega arith; most = omega (arith, before_most c (drop i s), length-drop i s) }
 
-  pub first-end : length s ≤ i → first_from c s i ≡ i
-  unfolding first_from before
-  first-end h = rw (drop_of_length-le s h) (omega arith)
+  pub first_none : None ≡ position (in_class c) (take (length s - i) (drop i s)) → First c s i (length s)
+  unfolding first_from
+  first_none e =
+      let p = ltb-false (position_or_len (in_class c) (drop i s)) (length (drop i s)) (cond_none _ (position_or_len (in_class c) (drop i s)) (from_i None e)) in
+      let b = before_is c (drop i s) in
+      record { is = omega (arith, before_most c (drop i s), length-drop i s); least = h; most = omega arith }
 
 -- ---- words
 
@@ -49,28 +67,3 @@ first_word s at e = e
 pub this_word : (s : List ℕ) (k j at e : ℕ) → j ≡ k → at ≡ word_start s j → e ≡ first_from Blank s at → take (e - at) (drop at s) ≡ word s k
 unfolding word part
 this_word s k j at e p q r = simp (r, q, p)
-
--- ---- texts that are the same
-
-module _ (a b : List ℕ) (i : ℕ) (h : i < length a) (l : i < length b) where
-  same_open : same (drop i a) (drop i b) ≡ (eqb (get_or a i 0) (get_or b i 0) && same (drop (i + 1) a) (drop (i + 1) b))
-  unfolding same
-  same_open = rw (add-one, drop-cons a i 0 h, drop-cons b i 0 l)
-
-  pub same_turn : get_or a i 0 ≡ get_or b i 0 → same (drop i a) (drop i b) ≡ same (drop (i + 1) a) (drop (i + 1) b)
-  same_turn e = same_open ∙ ap (λ (x : Bool). x && same (drop (i + 1) a) (drop (i + 1) b)) (eq-eqb (get_or a i 0) (get_or b i 0) e)
-
-  pub same_fails : (get_or a i 0 ≡ get_or b i 0 → ⊥) → same (drop i a) (drop i b) ≡ false
-  same_fails e = same_open ∙ ap (λ (x : Bool). x && same (drop (i + 1) a) (drop (i + 1) b)) (ne_eqb (get_or a i 0) (get_or b i 0) e)
-
-pub same_end : (a b : List ℕ) (i : ℕ) → length a ≤ i → length b ≤ i → same (drop i a) (drop i b) ≡ true
-unfolding same
-same_end a b i h l = rw (drop_of_length-le a h, drop_of_length-le b l)
-
--- texts of other lengths
-pub same_lengths : (a b : List ℕ) → (length a ≡ length b → ⊥) → same a b ≡ false
-unfolding same
-same_lengths [] [] e = absurd (e refl)
-same_lengths [] (y ∷ b) e = refl
-same_lengths (x ∷ a) [] e = refl
-same_lengths (x ∷ a) (y ∷ b) e = and_false_right (eqb x y) (same a b) (same_lengths a b (λ p. e (ap suc p)))

@@ -1,34 +1,29 @@
 -- The fields of a line: numbers and bytes in digits, and what is wrong where they are not read.
 -- Assumes nothing.
-use Rattle.std.specs.Prelude.{Bool, true, false, List, ◌≡◌, ℕ, ◌%◌, ◌/◌, ◌<◌, leb, eqb, length}
+use Rattle.std.specs.Prelude.{List, Result, Ok, Err, ℕ, ◌%◌, ◌/◌, ◌==◌, nat_le, length, if◌then◌else◌}
 use Rattle.octets.specs.Bytes.{between}
 use Rattle.lines.specs.Digits.{are_digits, numeral}
-use Rattle.lines.specs.declared.fields.Fault.TheVariants as Fault
-use Rattle.lines.specs.declared.fields.Field.{Field}
-use Rattle.lines.specs.declared.fields.Field.TheVariants as TheField
+use Rattle.lines.specs.declared.fields.Fault.{Fault}
+use Rattle.lines.specs.declared.fields.Fault.TheVariants as TheFault
 
-abbrev pub pick_field : Bool → Field → Field → Field
-pick_field true a b = a
-pick_field false a b = b
+-- what follows of what was read; where it was not, why
+infixl 10 ◌>>=◌
+abbrev pub ◌>>=◌ : {A B : Type 0} → Result A Fault → (A → Result B Fault) → Result B Fault
+Ok v >>= k = k v
+Err f >>= k = Err f
 
 -- a number of n hex digits
-unfoldable pub hex_field : List ℕ → ℕ → Field
-hex_field w n = pick_field (are_digits 16 w) (pick_field (eqb (length w) n) (TheField.Value (numeral 16 0 w)) (TheField.Bad Fault.OtherLength)) (TheField.Bad Fault.NotHex)
+unfoldable pub hex_field : List ℕ → ℕ → Result ℕ Fault
+hex_field w n =
+    if are_digits 16 w then (if length w == n then Ok (numeral 16 0 w) else Err TheFault.OtherLength) else Err TheFault.NotHex
 
 -- a decimal number of at most 16 digits in a range
-unfoldable pub decimal_field : List ℕ → ℕ → ℕ → Field
+unfoldable pub decimal_field : List ℕ → ℕ → ℕ → Result ℕ Fault
 decimal_field w least most =
-    pick_field (are_digits 10 w)
-    (pick_field (leb (length w) 16)
-    (pick_field (between least most (numeral 10 0 w)) (TheField.Value (numeral 10 0 w)) (TheField.Bad Fault.OutOfRange))
-    (TheField.Bad Fault.OutOfRange))
-    (TheField.Bad Fault.NotDecimal)
+    if are_digits 10 w then
+    (if nat_le (length w) 16 then (if between least most (numeral 10 0 w) then Ok (numeral 10 0 w) else Err TheFault.OutOfRange) else Err TheFault.OutOfRange)
+    else Err TheFault.NotDecimal
 
 -- bytes, two hex digits for each: how many
-unfoldable pub bytes_field : List ℕ → Field
-bytes_field w = pick_field (are_digits 16 w) (pick_field (eqb (length w % 2) 0) (TheField.Value (length w / 2)) (TheField.Bad Fault.OddDigits)) (TheField.Bad Fault.NotHex)
-
--- r is the field d, and a number in it is below a bound
-pub record Reads (d : Field) (bound : ℕ) (r : Field) : Type 0 where
-  pub is : r ≡ d
-  pub below : (v : ℕ) → r ≡ TheField.Value v → v < bound
+unfoldable pub bytes_field : List ℕ → Result ℕ Fault
+bytes_field w = if are_digits 16 w then (if length w % 2 == 0 then Ok (length w / 2) else Err TheFault.OddDigits) else Err TheFault.NotHex

@@ -1,24 +1,23 @@
 -- The words of a line: what stands between blanks.
 -- Assumes nothing.
-use Rattle.std.specs.Prelude.{Bool, ◌||◌, not, List, [], ◌∷◌, ◌≡◌, ℕ, zero, suc, ◌+◌, ◌-◌, ◌≤◌, eqb, length, drop}
+use Rattle.std.specs.Prelude.{Bool, ◌||◌, not, List, [], ◌∷◌, ◌≡◌, ℕ, zero, suc, ◌+◌, ◌-◌, ◌≤◌, ◌==◌, length, drop, if◌then◌else◌}
 use Rattle.octets.specs.Bytes.{part}
-use Rattle.lines.specs.Digits.{pick_number}
 use Rattle.lines.specs.declared.words.Class.{Class}
 use Rattle.lines.specs.declared.words.Class.TheVariants.{LineEnd, Blank, Letter}
 
 -- a space, a tab or a carriage return
 abbrev pub is_blank : ℕ → Bool
-is_blank b = eqb b 32 || (eqb b 9 || eqb b 13)
+is_blank b = b == 32 || (b == 9 || b == 13)
 
 abbrev pub in_class : Class → ℕ → Bool
-in_class LineEnd b = eqb b 10
+in_class LineEnd b = b == 10
 in_class Blank b = is_blank b
 in_class Letter b = not (is_blank b)
 
 -- how many elements stand before the first of a class
 unfoldable pub before : Class → List ℕ → ℕ
 before c [] = 0
-before c (b ∷ s) = pick_number (in_class c b) 0 (suc (before c s))
+before c (b ∷ s) = if in_class c b then 0 else suc (before c s)
 
 -- the index of the first element of a class from index i on; where there is none, the length
 unfoldable pub first_from : Class → List ℕ → ℕ → ℕ

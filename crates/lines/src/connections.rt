@@ -1,10 +1,17 @@
 // What a line asks of one of the two connections, a and b.
 ghost use Rattle.std.specs.Prelude.{◌≡◌};
 ghost use Rattle.lines.specs.Words.{word as word_of};
-ghost use Rattle.lines.specs.Connections.{name_field, verb_fields, bytes_asked, asked_of};
+ghost use Rattle.lines.specs.Connections.{name_field, verb_text, verb_fields, bytes_asked, asked_of};
 
-use crate::fields::{Fault, Field, bytes_field, decimal_field, hex_field};
-use crate::words::{same, word};
+use crate::fields::{Fault, bytes_field, decimal_field, hex_field};
+use crate::words::word;
+
+// The two connections.
+#[derive(Clone, Copy, Debug, PartialEq, Eq)]
+pub enum Name {
+    A,
+    B,
+}
 
 // The commands for a connection.
 #[derive(Clone, Copy)]
@@ -30,7 +37,7 @@ pub enum Event {
     // T and RA.
     Indicate(u32, u64),
     Confirm,
-    // 1 is AU3, 2 AR, 3 DT.
+    // 1 is AU3, 2 AR, 3 DT: the kinds themselves are those of the table, above this crate.
     Bring(u8),
     Respond,
     Say,
@@ -48,130 +55,109 @@ pub enum Asked {
     Event(Event),
 }
 
-// The fields behind a connection's name: what is asked, or why they are not read.
-#[derive(Clone, Copy)]
-pub enum Told {
-    Is(Asked),
-    Bad(Fault),
-}
-
-// Word 1 as a connection's name: a is 0 and b is 1.
-pub fn name_field(line: &[u8]) -> Field
+// The connection that word 1 names.
+#[tactic(auto, unfolding(crate::specs::Connections::name_field))]
+pub fn name_field(line: &[u8]) -> Result<Name, Fault>
     ensures { result ≡ name_field (word_of line.now 1) }
 {
-    let w = word(line, 1);
-    if same(w, b"a") {
-        return Field::Value(0);
+    match word(line, 1) {
+        b"a" => Ok(Name::A),
+        b"b" => Ok(Name::B),
+        _ => Err(Fault::NoName),
     }
-    if same(w, b"b") {
-        return Field::Value(1);
-    }
-    Field::Bad(Fault::NoName)
 }
 
-// How many words follow a command for a connection.
-pub fn verb_fields(verb: Verb) -> usize
-    ensures { result ≡ verb_fields verb }
-{
-    match verb {
-        Verb::Connection => 2,
-        Verb::Call => 4,
-        Verb::Indicate => 4,
-        Verb::Confirm => 2,
-        Verb::Bring => 3,
-        Verb::Respond => 1,
-        Verb::Say => 2,
-        Verb::Release => 3,
-        Verb::Lost => 2,
-        Verb::End => 2,
-        Verb::Late => 1,
+impl Verb {
+    // The word that asks for it.
+    pub fn text(self) -> &'static [u8]
+        ensures { result.now ≡ verb_text self }
+    {
+        match self {
+            Verb::Connection => b"connection",
+            Verb::Call => b"call",
+            Verb::Indicate => b"indicate",
+            Verb::Confirm => b"confirm",
+            Verb::Bring => b"bring",
+            Verb::Respond => b"respond",
+            Verb::Say => b"say",
+            Verb::Release => b"release",
+            Verb::Lost => b"lost",
+            Verb::End => b"end",
+            Verb::Late => b"late",
+        }
+    }
+
+    // How many words follow it.
+    pub fn fields(self) -> usize
+        ensures { result ≡ verb_fields self }
+    {
+        match self {
+            Verb::Respond | Verb::Late => 1,
+            Verb::Connection | Verb::Confirm | Verb::Say | Verb::Lost | Verb::End => 2,
+            Verb::Bring | Verb::Release => 3,
+            Verb::Call | Verb::Indicate => 4,
+        }
     }
 }
 
 // ---- what is asked, a function for each form of the fields
 
 // An event whose last field is bytes, in word k.
-fn with_bytes(line: &[u8], k: usize, event: Event) -> Told
+fn with_bytes(line: &[u8], k: usize, event: Event) -> Result<Asked, Fault>
     ensures { result ≡ bytes_asked line.now k event }
 {
-    match bytes_field(line, k) {
-        Field::Value(_) => Told::Is(Asked::Event(event)),
-        Field::Bad(f) => Told::Bad(f),
-    }
+    bytes_field(line, k)?;
+    Ok(Asked::Event(event))
 }
 
-fn idle(line: &[u8]) -> Told
+fn idle(line: &[u8]) -> Result<Asked, Fault>
     ensures { result ≡ asked_of Verb.Connection line.now }
 {
-    match hex_field(line, 2, 8) {
-        Field::Value(v) => Told::Is(Asked::Idle(v as u32)),
-        Field::Bad(f) => Told::Bad(f),
-    }
+    let own = hex_field(line, 2, 8)?;
+    Ok(Asked::Idle(own as u32))
 }
 
-fn call(line: &[u8]) -> Told
+fn call(line: &[u8]) -> Result<Asked, Fault>
     ensures { result ≡ asked_of Verb.Call line.now }
 {
-    let peer = match hex_field(line, 2, 8) {
-        Field::Value(v) => v,
-        Field::Bad(f) => return Told::Bad(f),
-    };
-    let t = match hex_field(line, 3, 8) {
-        Field::Value(v) => v,
-        Field::Bad(f) => return Told::Bad(f),
-    };
-    match hex_field(line, 4, 16) {
-        Field::Value(v) => Told::Is(Asked::Event(Event::Call(peer as u32, t as u32, v))),
-        Field::Bad(f) => Told::Bad(f),
-    }
+    let peer = hex_field(line, 2, 8)?;
+    let t = hex_field(line, 3, 8)?;
+    let rb = hex_field(line, 4, 16)?;
+    Ok(Asked::Event(Event::Call(peer as u32, t as u32, rb)))
 }
 
-fn indicate(line: &[u8]) -> Told
+fn indicate(line: &[u8]) -> Result<Asked, Fault>
     ensures { result ≡ asked_of Verb.Indicate line.now }
 {
-    let t = match hex_field(line, 2, 8) {
-        Field::Value(v) => v,
-        Field::Bad(f) => return Told::Bad(f),
-    };
-    match hex_field(line, 3, 16) {
-        Field::Value(v) => with_bytes(line, 4, Event::Indicate(t as u32, v)),
-        Field::Bad(f) => Told::Bad(f),
-    }
+    let t = hex_field(line, 2, 8)?;
+    let ra = hex_field(line, 3, 16)?;
+    with_bytes(line, 4, Event::Indicate(t as u32, ra))
 }
 
-fn bring(line: &[u8]) -> Told
+fn bring(line: &[u8]) -> Result<Asked, Fault>
     ensures { result ≡ asked_of Verb.Bring line.now }
 {
-    match decimal_field(line, 2, 1, 3) {
-        Field::Value(v) => with_bytes(line, 3, Event::Bring(v as u8)),
-        Field::Bad(f) => Told::Bad(f),
-    }
+    let kind = decimal_field(line, 2, 1, 3)?;
+    with_bytes(line, 3, Event::Bring(kind as u8))
 }
 
-fn release(line: &[u8]) -> Told
+fn release(line: &[u8]) -> Result<Asked, Fault>
     ensures { result ≡ asked_of Verb.Release line.now }
 {
-    let reason = match decimal_field(line, 2, 0, 255) {
-        Field::Value(v) => v,
-        Field::Bad(f) => return Told::Bad(f),
-    };
-    match decimal_field(line, 3, 0, 255) {
-        Field::Value(v) => Told::Is(Asked::Event(Event::Release(reason as u8, v as u8))),
-        Field::Bad(f) => Told::Bad(f),
-    }
+    let reason = decimal_field(line, 2, 0, 255)?;
+    let sub = decimal_field(line, 3, 0, 255)?;
+    Ok(Asked::Event(Event::Release(reason as u8, sub as u8)))
 }
 
-fn lost(line: &[u8]) -> Told
+fn lost(line: &[u8]) -> Result<Asked, Fault>
     ensures { result ≡ asked_of Verb.Lost line.now }
 {
-    match decimal_field(line, 2, 0, 255) {
-        Field::Value(v) => Told::Is(Asked::Event(Event::Lost(v as u8))),
-        Field::Bad(f) => Told::Bad(f),
-    }
+    let reason = decimal_field(line, 2, 0, 255)?;
+    Ok(Asked::Event(Event::Lost(reason as u8)))
 }
 
 // What stands behind the name.
-pub fn fields_of(verb: Verb, line: &[u8]) -> Told
+pub fn fields_of(verb: Verb, line: &[u8]) -> Result<Asked, Fault>
     ensures { result ≡ asked_of verb line.now }
 {
     match verb {
@@ -180,11 +166,11 @@ pub fn fields_of(verb: Verb, line: &[u8]) -> Told
         Verb::Indicate => indicate(line),
         Verb::Confirm => with_bytes(line, 2, Event::Confirm),
         Verb::Bring => bring(line),
-        Verb::Respond => Told::Is(Asked::Event(Event::Respond)),
+        Verb::Respond => Ok(Asked::Event(Event::Respond)),
         Verb::Say => with_bytes(line, 2, Event::Say),
         Verb::Release => release(line),
         Verb::Lost => lost(line),
         Verb::End => with_bytes(line, 2, Event::End),
-        Verb::Late => Told::Is(Asked::Event(Event::Late)),
+        Verb::Late => Ok(Asked::Event(Event::Late)),
     }
 }

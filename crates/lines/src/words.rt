@@ -1,7 +1,7 @@
 // The lines of a text and the words of a line.
 ghost use Rattle.std.specs.Prelude.{◌≡◌, ◌≤◌, length};
-ghost use Rattle.octets.specs.Bytes.{same as isSame};
-ghost use Rattle.lines.specs.Words.{is_blank, in_class, first_from, First, word as word_of};
+ghost use Rattle.std.specs.List.{position};
+ghost use Rattle.lines.specs.Words.{is_blank, in_class, First, word as word_of};
 
 // What a search through a text stops at: a blank is a space, a tab or a carriage return, and a letter any other byte.
 #[derive(Clone, Copy)]
@@ -14,13 +14,7 @@ pub enum Class {
 fn is_blank(b: u8) -> bool
     ensures { result ≡ is_blank b }
 {
-    if b == b' ' {
-        return true;
-    }
-    if b == b'\t' {
-        return true;
-    }
-    b == b'\r'
+    matches!(b, b' ' | b'\t' | b'\r')
 }
 
 fn is_in(class: Class, b: u8) -> bool
@@ -33,19 +27,23 @@ fn is_in(class: Class, b: u8) -> bool
     }
 }
 
+// The index of the first byte of a class.
+fn position(class: Class, s: &[u8]) -> Option<usize>
+    ensures { result ≡ position (in_class class) s.now }
+{
+    s.iter().position(|b| is_in(class, *b))
+}
+
 // The index of the first byte of a class from index i on; where there is none, the length.
+// Where there is none, the length: what lies before it is a slice in either case (First).
 pub fn first(class: Class, s: &[u8], i: usize) -> usize
     requires { i ≤ length s.now }
     ensures { First class s.now i result }
 {
-    let mut k = i;
-    while k < s.len() {
-        if is_in(class, s[k]) {
-            return k;
-        }
-        k += 1;
+    match position(class, &s[i..]) {
+        Some(n) => i + n,
+        None => s.len(),
     }
-    k
 }
 
 // Word k of a line, the first being 0; empty where there are fewer.
@@ -53,28 +51,9 @@ pub fn word(s: &[u8], k: usize) -> &[u8]
     ensures { result.now ≡ word_of s.now k }
 {
     let mut at = first(Class::Letter, s, 0);
-    let mut j = 0;
-    while j < k {
+    for _j in 0..k {
         at = first(Class::Letter, s, first(Class::Blank, s, at));
-        j += 1;
     }
     let end = first(Class::Blank, s, at);
     &s[at..end]
-}
-
-// Whether two texts are the same.
-pub fn same(a: &[u8], b: &[u8]) -> bool
-    ensures { result ≡ isSame a.now b.now }
-{
-    if a.len() != b.len() {
-        return false;
-    }
-    let mut i = 0;
-    while i < a.len() {
-        if a[i] != b[i] {
-            return false;
-        }
-        i += 1;
-    }
-    true
 }

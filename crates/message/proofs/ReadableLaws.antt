@@ -1,43 +1,33 @@
 -- The requests of a list that passes the body test have fields that fit their widths.
 -- Assumes nothing.
 use mathlib.Core.Path.{◌≡◌}
-use mathlib.Core.Bool.{Bool, true, ◌&&◌}
+use mathlib.Core.Bool.{true}
 use mathlib.Core.List.{List}
 use Prim.Native.Nat.{ℕ, zero, suc, ◌+◌, ◌≤◌}
 use native.Mathlib.Omega.{arith}
+use Rattle.std.proofs.lemmas.Grind.{common_steps}
 use lib.ListN.{length}
-use lib.Dec.{leb}
-use borrow.Author.Tests.{leb-true}
-use Rattle.octets.specs.Bytes.{Bytes, between}
-use Rattle.octets.proofs.BoolLaws.{and_left, and_right}
+use Rattle.octets.specs.Bytes.{Bytes}
 use Rattle.octets.proofs.PartLaws.{part_length, bytes-part}
 use Rattle.octets.proofs.WordLaws.{get32-fits, numbers_fit}
 use Rattle.store.specs.WellFormed.{Readable, AllReadable}
 use Rattle.message.specs.declared.Command.{Command}
 use Rattle.message.specs.declared.Command.TheVariants.{Adds, Deletes, Validities, Entities}
-use Rattle.message.specs.Body.{add_count, period_at, entities_count, kmac_at, size_at, fields_ok, fields_from, request_at, requests_from, request_number, requests_at, most, list_ok, requests, body_ok}
+use Rattle.message.specs.Body.{add_count, period_at, entities_count, kmac_at, size_at, fields_from, request_at, requests_from, request_number, requests_at, list_ok, requests, body_ok}
 use Rattle.message.specs.Claims.{RequestsReadable}
 
 module _ (k : Command) (m : List ℕ) where
   -- the first request ends within the message, and the others stand behind it
   pub fields_fit : (n at : ℕ) → fields_from k m at (suc n) ≡ true → at + size_at k m at ≤ length m
   unfolding fields_from
-  fields_fit n at h =
-      let a : Bool = fields_ok k m at in
-      let b : Bool = leb (at + size_at k m at) (length m) in
-      let c : Bool = fields_from k m (at + size_at k m at) n in
-      leb-true (at + size_at k m at) (length m) (and_left b c (and_right a (b && c) h))
+  fields_fit n at h = grind (arith, common_steps)
 
   pub fields-rest : (n at : ℕ) → fields_from k m at (suc n) ≡ true → fields_from k m (at + size_at k m at) n ≡ true
   unfolding fields_from
-  fields-rest n at h =
-      let a : Bool = fields_ok k m at in
-      let b : Bool = leb (at + size_at k m at) (length m) in
-      let c : Bool = fields_from k m (at + size_at k m at) n in
-      and_right b c (and_right a (b && c) h)
+  fields-rest n at h = grind (arith, common_steps)
 
   pub list_ok-fields : list_ok k m ≡ true → fields_from k m requests_at (request_number m) ≡ true
-  list_ok-fields h = and_right (between 1 (most k) (request_number m)) (fields_from k m requests_at (request_number m)) h
+  list_ok-fields h = grind (arith, common_steps)
 
 pub readable-at : (k : Command) (m : List ℕ) → Bytes m → (at : ℕ) → at + size_at k m at ≤ length m → Readable (request_at k m at)
 unfolding Readable request_at size_at

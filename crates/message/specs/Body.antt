@@ -1,6 +1,6 @@
 -- The bodies of the commands (000, 5.3.4 to 5.3.8, 5.3.14): their requests, and the body test of document 01.
 -- Assumes nothing.
-use Rattle.std.specs.Prelude.{Bool, true, ◌&&◌, cond, List, [], ◌∷◌, ℕ, zero, suc, ◌+◌, ◌*◌, leb, eqb, length, get_or}
+use Rattle.std.specs.Prelude.{Bool, true, ◌&&◌, cond, Option, Some, None, List, [], ◌∷◌, ℕ, zero, suc, ◌+◌, ◌*◌, leb, eqb, length, get_or}
 use Rattle.octets.specs.Bytes.{between, get16, get32, part}
 use Rattle.octets.specs.Words.{numbers}
 use Rattle.store.specs.Request.{Request, add, delete, validity, entities}
@@ -9,8 +9,6 @@ use Rattle.message.specs.declared.Command.{Command}
 use Rattle.message.specs.declared.Command.TheVariants.{Adds, Deletes, Validities, Entities}
 use Rattle.message.specs.declared.Task.{Task}
 use Rattle.message.specs.declared.Task.TheVariants.{Requests, DeleteAll, EndOfUpdate}
-use Rattle.message.specs.declared.Sized.{Sized}
-use Rattle.message.specs.declared.Sized.TheVariants.{Size, Bad}
 
 -- ---- one request, which stands at index i
 
@@ -57,10 +55,10 @@ request_at Validities m i = validity (get32 m i) (get32 m (i + 4)) (get32 m (i +
 request_at Entities m i = entities (get32 m i) (get32 m (i + 4)) (numbers m (i + 10) (entities_count m i))
 
 -- the size of the request, or that no whole request with right fields stands there
-unfoldable pub size_if : Bool → ℕ → List ℕ → ℕ → Sized
-size_if ok size m i = cond (ok && leb (i + size) (length m)) (Size size) Bad
+unfoldable pub size_if : Bool → ℕ → List ℕ → ℕ → Option ℕ
+size_if ok size m i = cond (ok && leb (i + size) (length m)) (Some size) None
 
-unfoldable pub sized : Command → List ℕ → ℕ → Sized
+unfoldable pub sized : Command → List ℕ → ℕ → Option ℕ
 sized k m i = size_if (fields_ok k m i) (size_at k m i) m i
 
 -- ---- the list of requests

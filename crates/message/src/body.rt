@@ -3,7 +3,8 @@ ghost use Rattle.std.specs.Prelude.{◌≡◌, true, ◌+◌, ◌*◌, ◌≤◌
 ghost use Rattle.octets.specs.Bytes.{between, get16};
 ghost use Rattle.message.specs.Body.{sized, size_if, most, list_ok, body_ok, fields_from};
 
-use crate::{Command, HEADER, Sized, Task};
+use crate::{Command, HEADER, Task};
+use octets::get16_at;
 
 // K-LENGTH, the range of PEER-NUM, and where REQ-NUM and the requests stand.
 const KEY_LENGTH: u8 = 24;
@@ -14,63 +15,44 @@ pub const REQ_NUM_AT: usize = 20;
 
 pub const REQUESTS_AT: usize = 22;
 
-// A number of two bytes.
-fn number_at(m: &[u8], i: usize) -> usize
-    requires { i + 2 ≤ length m.now }
-    ensures { (result ≡ get16 m.now i) × (result < 65536) }
-{
-    octets::get16_at(m, i) as usize
-}
-
-// A request of base bytes.
-fn fixed_size(m: &[u8], i: usize, base: usize) -> Sized
+// The size of a request of base bytes.
+#[tactic(auto, unfolding(crate::specs::Body::size_if))]
+fn fixed_size(m: &[u8], i: usize, base: usize) -> Option<usize>
     requires { i ≤ length m.now }
     ensures { result ≡ size_if true base m.now i }
 {
-    if m.len() - i < base {
-        return Sized::Bad;
-    }
-    Sized::Size(base)
+    if m.len() - i < base { None } else { Some(base) }
 }
 
-// A request of base bytes, among them a PEER-NUM at index field, and of that many identities.
-fn peers_size(m: &[u8], i: usize, field: usize, base: usize) -> Sized
+// The size of a request of base bytes, among them a PEER-NUM at index field, and of that many identities.
+#[tactic(auto, unfolding(crate::specs::Body::size_if))]
+fn peers_size(m: &[u8], i: usize, field: usize, base: usize) -> Option<usize>
     requires { (i ≤ length m.now) × (field + 2 ≤ base) × (base < 100) }
     ensures { result ≡ size_if (between 1 1000 (get16 m.now (i + field))) (base + 4 * get16 m.now (i + field)) m.now i }
 {
-    let left = m.len() - i;
-    if left < base {
-        return Sized::Bad;
+    fixed_size(m, i, base)?;
+    let n = get16_at(m, i + field) as usize;
+    if !(1..=PEERS_MOST).contains(&n) {
+        return None;
     }
-    let n = number_at(m, i + field);
-    if n < 1 {
-        return Sized::Bad;
-    }
-    if PEERS_MOST < n {
-        return Sized::Bad;
-    }
-    if left < base + 4 * n {
-        return Sized::Bad;
-    }
-    Sized::Size(base + 4 * n)
+    fixed_size(m, i, base + 4 * n)
 }
 
-// A K-STRUCT.
-fn add_size(m: &[u8], i: usize) -> Sized
+// The size of a K-STRUCT.
+#[tactic(auto, unfolding(crate::specs::Body::size_if, crate::specs::Body::sized, crate::specs::Body::fields_ok, crate::specs::Body::size_at))]
+fn add_size(m: &[u8], i: usize) -> Option<usize>
     requires { i ≤ length m.now }
     ensures { result ≡ sized Command.Adds m.now i }
 {
-    if m.len() <= i {
-        return Sized::Bad;
-    }
-    if m[i] != KEY_LENGTH {
-        return Sized::Bad;
+    if *m.get(i)? != KEY_LENGTH {
+        return None;
     }
     peers_size(m, i, 37, 47)
 }
 
-// The size of the request that stands at index i.
-pub fn request_size(command: Command, m: &[u8], i: usize) -> Sized
+// The size of the request that stands at index i; none where no whole request with right fields does.
+#[tactic(auto, unfolding(crate::specs::Body::sized, crate::specs::Body::fields_ok, crate::specs::Body::size_at))]
+pub fn request_size(command: Command, m: &[u8], i: usize) -> Option<usize>
     requires { i ≤ length m.now }
     ensures { result ≡ sized command m.now i }
 {
@@ -100,17 +82,12 @@ fn fields_ok(command: Command, m: &[u8], n: usize) -> bool
     ensures { result ≡ fields_from command m.now 22 n }
 {
     let mut i = REQUESTS_AT;
-    let mut k: usize = 0;
-    while k < n {
-        match request_size(command, m, i) {
-            Sized::Size(size) => {
-                i += size;
-                k += 1;
-            }
-            Sized::Bad => {
-                return false;
-            }
-        }
+    for _ in 0..n {
+        let Some(size) = request_size(command, m, i) else {
+            return false;
+        };
+        // The index moves on by the size of each request, and they differ: no iterator goes by such steps.
+        i += size;
     }
     i == m.len()
 }
@@ -122,17 +99,12 @@ fn list_ok(command: Command, m: &[u8]) -> bool
     if m.len() < REQUESTS_AT {
         return false;
     }
-    let n = number_at(m, REQ_NUM_AT);
-    if n < 1 {
-        return false;
-    }
-    if most_of(command) < n {
-        return false;
-    }
-    fields_ok(command, m, n)
+    let n = get16_at(m, REQ_NUM_AT) as usize;
+    (1..=most_of(command)).contains(&n) && fields_ok(command, m, n)
 }
 
 // The body test.
+#[tactic(auto, unfolding(crate::specs::Body::body_ok))]
 pub fn body_ok(task: Task, m: &[u8]) -> bool
     ensures { result ≡ body_ok task m.now }
 {

@@ -54,26 +54,21 @@ pub enum Kind {
     Other,
 }
 
-// The size of a request, or that no whole request with right fields stands at a place.
-#[derive(Clone, Copy)]
-pub enum Sized {
-    Size(usize),
-    Bad,
-}
-
 // The kind of a message type number.
-#[tactic(auto, unfolding(crate::specs::Header::kind_of))]
-pub fn kind_of(t: u8) -> Kind
-    ensures { result ≡ kind_of t }
-{
-    match t {
-        0 => Kind::Asks(Task::Requests(Command::Adds)),
-        1 => Kind::Asks(Task::Requests(Command::Deletes)),
-        2 => Kind::Asks(Task::DeleteAll),
-        3 => Kind::Asks(Task::Requests(Command::Validities)),
-        4 => Kind::Asks(Task::Requests(Command::Entities)),
-        9 => Kind::SessionInit,
-        10 => Kind::Asks(Task::EndOfUpdate),
-        _ => Kind::Other,
+impl From<u8> for Kind {
+    ghost from_gives = { λ t k. k ≡ kind_of t };
+
+    #[tactic(auto, unfolding(crate::specs::Header::kind_of))]
+    fn from(t: u8) -> Kind {
+        match t {
+            0 => Kind::Asks(Task::Requests(Command::Adds)),
+            1 => Kind::Asks(Task::Requests(Command::Deletes)),
+            2 => Kind::Asks(Task::DeleteAll),
+            3 => Kind::Asks(Task::Requests(Command::Validities)),
+            4 => Kind::Asks(Task::Requests(Command::Entities)),
+            9 => Kind::SessionInit,
+            10 => Kind::Asks(Task::EndOfUpdate),
+            _ => Kind::Other,
+        }
     }
 }

@@ -1,10 +1,12 @@
 // The two messages that are written, and the session init that is read.
-ghost use Rattle.std.specs.Prelude.{◌≡◌, [], ◌∷◌, ◌++◌, ◌+◌, ◌≤◌, ◌<◌, length};
-ghost use Rattle.octets.specs.Bytes.{splice, part};
-ghost use Rattle.octets.specs.Words.{elem};
+ghost use Rattle.std.specs.Prelude.{◌≡◌, ◌≤◌, length};
+ghost use Rattle.octets.specs.Bytes.{splice};
 ghost use Rattle.message.specs.Written.{header, init_bytes, reply_head, init_ok};
 
-use crate::{HEADER, VERSION};
+use crate::{
+    HEADER, RECEIVER_AT, SENDER_AT, SEQUENCE_AT, TRANSACTION_AT, TYPE_AT, VERSION, VERSION_AT,
+};
+use octets::{put16, put32};
 
 // Message types (5.3.3), and the time-out that means defined by the peer (5.3.13).
 const SESSION_INIT: u8 = 9;
@@ -16,45 +18,31 @@ const TIME_OUT_BY_PEER: u8 = 255;
 // The bytes of a session init, and of a reply before its RESULTs.
 pub const HEAD: usize = 23;
 
-// A header and three bytes behind it.
-fn head(
-    size: u32,
-    to: u32,
-    from: u32,
-    number: u32,
-    next: u16,
+// The fields of a header (5.3.3).
+#[derive(Clone, Copy)]
+struct Header {
+    length: u32,
+    receiver: u32,
+    sender: u32,
+    transaction: u32,
+    sequence: u16,
     kind: u8,
-    a: u8,
-    b: u8,
-    c: u8,
-) -> [u8; 23]
-    ensures { result ≡ header size to from number next kind ++ (a ∷ b ∷ c ∷ []) }
-{
-    [
-        (size / 16777216 % 256) as u8,
-        (size / 65536 % 256) as u8,
-        (size / 256 % 256) as u8,
-        (size % 256) as u8,
-        VERSION,
-        (to / 16777216 % 256) as u8,
-        (to / 65536 % 256) as u8,
-        (to / 256 % 256) as u8,
-        (to % 256) as u8,
-        (from / 16777216 % 256) as u8,
-        (from / 65536 % 256) as u8,
-        (from / 256 % 256) as u8,
-        (from % 256) as u8,
-        (number / 16777216 % 256) as u8,
-        (number / 65536 % 256) as u8,
-        (number / 256 % 256) as u8,
-        (number % 256) as u8,
-        (next / 256 % 256) as u8,
-        (next % 256) as u8,
-        kind,
-        a,
-        b,
-        c,
-    ]
+}
+
+impl Header {
+    // Writes the header to the front of out.
+    fn put(self, out: &mut [u8])
+        requires { 20 ≤ length out.old }
+        ensures { out.new ≡ splice out.old 0 (header self.length self.receiver self.sender self.transaction self.sequence self.kind) }
+    {
+        put32(out, 0, self.length);
+        out[VERSION_AT] = VERSION;
+        put32(out, RECEIVER_AT, self.receiver);
+        put32(out, SENDER_AT, self.sender);
+        put32(out, TRANSACTION_AT, self.transaction);
+        put16(out, SEQUENCE_AT, self.sequence);
+        out[TYPE_AT] = self.kind;
+    }
 }
 
 // Writes a session init to the front of out.
@@ -62,56 +50,41 @@ pub fn put_init(out: &mut [u8], own: u32, peer: u32, start: u16)
     requires { 23 ≤ length out.old }
     ensures { out.new ≡ splice out.old 0 (init_bytes own peer start) }
 {
-    let h = head(
-        23,
-        peer,
-        own,
-        0,
-        start,
-        SESSION_INIT,
-        1,
-        VERSION,
-        TIME_OUT_BY_PEER,
-    );
-    octets::copy(out, 0, &h, 0, HEAD);
+    let header = Header {
+        length: HEAD as u32,
+        receiver: peer,
+        sender: own,
+        transaction: 0,
+        sequence: start,
+        kind: SESSION_INIT,
+    };
+    header.put(out);
+    out[HEADER] = 1;
+    out[HEADER + 1] = VERSION;
+    out[HEADER + 2] = TIME_OUT_BY_PEER;
 }
 
 // Writes a reply before its n RESULTs to the front of out.
+// RESPONSE comes as its number: its enum stands in `session`, above.
 pub fn put_reply(out: &mut [u8], own: u32, peer: u32, number: u32, next: u16, response: u8, n: u16)
     requires { 23 ≤ length out.old }
     ensures { out.new ≡ splice out.old 0 (reply_head own peer number next response n) }
 {
-    let size = 23 + (n as u32);
-    let h = head(
-        size,
-        peer,
-        own,
-        number,
-        next,
-        RESPONSE,
-        response,
-        (n / 256 % 256) as u8,
-        (n % 256) as u8,
-    );
-    octets::copy(out, 0, &h, 0, HEAD);
-}
-
-// Whether one of the n bytes of m from index i is the version.
-fn has_version(m: &[u8], i: usize, n: usize) -> bool
-    requires { i + n ≤ length m.now }
-    ensures { result ≡ elem 2 (part m.now i n) }
-{
-    let mut k: usize = 0;
-    while k < n {
-        if m[i + k] == VERSION {
-            return true;
-        }
-        k += 1;
-    }
-    false
+    let header = Header {
+        length: HEAD as u32 + n as u32,
+        receiver: peer,
+        sender: own,
+        transaction: number,
+        sequence: next,
+        kind: RESPONSE,
+    };
+    header.put(out);
+    out[HEADER] = response;
+    put16(out, HEADER + 1, n);
 }
 
 // Whether the body is that of a session init with the version in its list.
+#[tactic(auto, unfolding(crate::specs::Written::init_ok))]
 pub fn init_ok(m: &[u8]) -> bool
     ensures { result ≡ init_ok m.now }
 {
@@ -122,5 +95,5 @@ pub fn init_ok(m: &[u8]) -> bool
     if m.len() != 22 + n {
         return false;
     }
-    has_version(m, 21, n)
+    m[21..21 + n].contains(&VERSION)
 }

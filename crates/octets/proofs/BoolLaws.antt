@@ -1,7 +1,7 @@
 -- Laws of `&&`, of a number between two bounds, and of tests over every number below a bound.
 -- Assumes nothing.
-use mathlib.Core.Path.{◌≡◌, refl, sym, ap₂, ◌∙◌, subst}
-use mathlib.Core.Bool.{Bool, true, false, ◌&&◌, not}
+use mathlib.Core.Path.{◌≡◌, refl, sym, ap₂, subst}
+use mathlib.Core.Bool.{Bool, true, false, ◌&&◌}
 use mathlib.Core.List.{List, [], ◌∷◌}
 use mathlib.Core.Logic.{⊎_elim}
 use Prim.Native.Nat.{ℕ, zero, suc, ◌+◌, ◌≤◌, ◌<◌}
@@ -9,7 +9,7 @@ use native.Mathlib.Nat.{not-suc-le-zero, le_of_suc-le-suc, eq-or-lt_of_le}
 use native.Mathlib.Numerals.{add-one}
 use native.Mathlib.Omega.{arith}
 use lib.Dec.{eqb, leb}
-use borrow.Author.Tests.{eqb-true, eq-eqb, leb-true, le-leb, lt-leb, not-true, not-false}
+use borrow.Author.Tests.{eqb-true, eq-eqb, leb-true, le-leb, lt-leb}
 use Rattle.octets.specs.Bytes.{between, all_below, same}
 
 -- a test is not both true and false
@@ -33,13 +33,6 @@ and_false_left a b p = rw p
 pub and_false_right : (a b : Bool) → b ≡ false → (a && b) ≡ false
 and_false_right true b p = p
 and_false_right false b p = refl
-
--- a call that answers the test b, in `if !r`: where the branch is left, the test holds
-pub test-holds : (r : Bool) {b : Bool} → r ≡ b → not r ≡ false → b ≡ true
-test-holds r e h = sym e ∙ not-false r h
-
-pub test_fails : (r : Bool) {b : Bool} → r ≡ b → not r ≡ true → b ≡ false
-test_fails r e h = sym e ∙ not-true r h
 
 -- ---- a number between two bounds
 

@@ -2,16 +2,17 @@
 -- Assumes nothing.
 use mathlib.Core.Path.{◌≡◌, refl, sym, ap, ◌∙◌, subst, subst⁻¹}
 use mathlib.Core.List.{List, [], ◌∷◌, ◌++◌}
-use Prim.Native.Nat.{ℕ, zero, suc, ◌+◌, ◌-◌, ◌*◌, ◌/◌, ◌%◌, ◌^◌, ◌≤◌, ◌<◌}
+use Prim.Native.Nat.{ℕ, zero, suc, ◌+◌, ◌*◌, ◌/◌, ◌%◌, ◌^◌, ◌≤◌, ◌<◌}
 use native.Mathlib.Nat.{add_assoc}
 use native.Mathlib.Numerals.{add-one}
 use native.Mathlib.Omega.{arith}
 use lib.Arith.{digits_lt}
-use lib.Pow.{pow-add, pow_mono, shr-shr, shr_lt}
+use lib.Pow.{pow-add, pow_mono, shr_lt}
+use Rattle.std.specs.Int.{w64, to_be_bytes, from_be_bytes}
 use lib.ListN.{length, get_or, take, drop, length-append}
 use lib.Seq.{take_at, drop_at}
 use Rattle.octets.specs.Bytes.{Bytes, get16, get32, be16, be32, number, bytes, part}
-use Rattle.octets.proofs.PartLaws.{part-cons, part_none, part_snoc}
+use Rattle.octets.proofs.PartLaws.{part-cons, part_none, part_snoc, part_at}
 
 -- ---- two bytes and four
 
@@ -77,15 +78,6 @@ unfolding bytes
 length-bytes zero v = refl
 length-bytes (suc n) v = omega (arith, length-append (bytes n (v / 256)) (v % 256 ∷ []), length-bytes n (v / 256))
 
--- the upper k + 1 of the 8 bytes of a word are the upper k, and one more
-pub bytes_more : (k v : ℕ) → k < 8 → bytes (k + 1) (v / 2 ^ (64 - 8 * (k + 1))) ≡ bytes k (v / 2 ^ (64 - 8 * k)) ++ (v / 2 ^ (56 - 8 * k) % 256 ∷ [])
-unfolding bytes
-bytes_more k v h =
-    let d : 64 - 8 * (k + 1) ≡ 56 - 8 * k = omega arith in
-    let e : 56 - 8 * k + 8 ≡ 64 - 8 * k = omega arith in
-    rw (d, add-one)
-    (ap (λ (n : ℕ). bytes k n ++ (v / 2 ^ (56 - 8 * k) % 256 ∷ [])) (shr-shr v (56 - 8 * k) 8 ∙ ap (λ (n : ℕ). v / 2 ^ n) e))
-
 -- the bytes of the number that n bytes are
 pub part_bytes : (n : ℕ) (s : List ℕ) (i : ℕ) → Bytes s → i + n ≤ length s → part s i n ≡ bytes n (number n s i)
 unfolding bytes number
@@ -115,3 +107,22 @@ bytes_one (suc n) v w hv hw e =
     let high : v / 256 ≡ w / 256 =
     bytes_one n (v / 256) (w / 256) (shr_lt (8 * n) 8 (subst (λ (k : ℕ). v < 2 ^ k) s hv)) (shr_lt (8 * n) 8 (subst (λ (k : ℕ). w < 2 ^ k) s hw)) front in
     omega arith
+
+-- ---- a word of eight bytes, as the library has it
+
+pub bytes_8 : (v : ℕ) → to_be_bytes w64 v ≡ bytes 8 v
+unfolding bytes
+bytes_8 v =
+    let d2 : v / 256 / 256 ≡ v / 65536 = omega arith in
+    let d3 : v / 65536 / 256 ≡ v / 16777216 = omega arith in
+    let d4 : v / 16777216 / 256 ≡ v / 4294967296 = omega arith in
+    let d5 : v / 4294967296 / 256 ≡ v / 1099511627776 = omega arith in
+    let d6 : v / 1099511627776 / 256 ≡ v / 281474976710656 = omega arith in
+    let d7 : v / 281474976710656 / 256 ≡ v / 72057594037927936 = omega arith in
+    rw (d2, d3, d4, d5, d6, d7)
+
+pub number-8 : (s : List ℕ) (i : ℕ) (w : List ℕ) → Bytes s → w ≡ part s i 8 → from_be_bytes w64 w ≡ number 8 s i
+unfolding number
+number-8 s i w b e =
+    let at : (k : ℕ) → k < 8 → get_or w k 0 ≡ get_or s (i + k) 0 % 256 = λ k h. ap (λ (l : List ℕ). get_or l k 0) e ∙ part_at s i 8 k h ∙ omega (arith, b (i + k)) in
+    omega (arith, at 0 (omega arith), at 1 (omega arith), at 2 (omega arith), at 3 (omega arith), at 4 (omega arith), at 5 (omega arith), at 6 (omega arith), at 7 (omega arith))

@@ -1,16 +1,15 @@
 -- Laws of the parts of a list.
 -- Assumes nothing.
 use mathlib.Core.Path.{◌≡◌, refl, sym, ap, ◌∙◌, subst}
-use mathlib.Core.Bool.{Bool, true, false, ◌&&◌}
+use mathlib.Core.Bool.{true}
 use mathlib.Core.List.{List, [], ◌∷◌, ◌++◌}
 use Prim.Native.Nat.{ℕ, zero, suc, ◌+◌, ◌-◌, ◌≤◌, ◌<◌, min}
-use native.Mathlib.Nat.{add_assoc}
 use native.Mathlib.Numerals.{add-one}
 use native.Mathlib.Omega.{arith}
 use lib.ListN.{length, get_or, take, drop, replicate, length-take, length-drop, get_or-eq_default}
 use lib.Seq.{drop-cons, take-add, drop-drop, take_at, drop_at, take_all, get_or-take, get_or-drop}
 use lib.Dec.{eqb}
-use borrow.Author.Tests.{eqb-true, eq-eqb, ne_eqb}
+use borrow.Author.Tests.{eqb-true}
 use Rattle.octets.specs.Bytes.{Bytes, part, all_zero}
 use Rattle.octets.proofs.BoolLaws.{and_left, and_right}
 
@@ -85,26 +84,3 @@ zeros_of (x ∷ xs) h =
 
 pub all_zero-part : (s : List ℕ) (i n : ℕ) → i + n ≤ length s → all_zero (part s i n) ≡ true → part s i n ≡ replicate n 0
 all_zero-part s i n h z = zeros_of (part s i n) z ∙ ap (λ (k : ℕ). replicate k 0) (part_length s i n h)
-
--- a turn of the loop that looks for a byte that is not zero
-module _ (s : List ℕ) (i n k : ℕ) where
-  all_zero_open : k < n → i + n ≤ length s → all_zero (part s (i + k) (n - k)) ≡ (eqb (get_or s (i + k) 0) 0 && all_zero (part s (i + (k + 1)) (n - (k + 1))))
-  unfolding all_zero
-  all_zero_open l h =
-      let e : n - k ≡ n - (k + 1) + 1 = omega arith in
-      let b : i + k < length s = omega arith in
-      ap (λ (m : ℕ). all_zero (part s (i + k) m)) e
-      ∙ ap all_zero (part-cons s (i + k) (n - (k + 1)) b)
-      ∙ ap (λ (x : ℕ). eqb (get_or s (i + k) 0) 0 && all_zero (part s x (n - (k + 1)))) (add_assoc i k 1)
-
-  pub all_zero_turn : k < n → i + n ≤ length s → get_or s (i + k) 0 ≡ 0 → all_zero (part s (i + k) (n - k)) ≡ all_zero (part s (i + (k + 1)) (n - (k + 1)))
-  all_zero_turn l h e =
-      all_zero_open l h ∙ ap (λ (x : Bool). x && all_zero (part s (i + (k + 1)) (n - (k + 1)))) (eq-eqb (get_or s (i + k) 0) 0 e)
-
-  pub all_zero_fails : k < n → i + n ≤ length s → (get_or s (i + k) 0 ≡ 0 → ⊥) → all_zero (part s (i + k) (n - k)) ≡ false
-  all_zero_fails l h e =
-      all_zero_open l h ∙ ap (λ (x : Bool). x && all_zero (part s (i + (k + 1)) (n - (k + 1)))) (ne_eqb (get_or s (i + k) 0) 0 e)
-
-  pub all_zero-end : n ≤ k → all_zero (part s (i + k) (n - k)) ≡ true
-  unfolding all_zero part
-  all_zero-end h = let e : n - k ≡ 0 = omega arith in ap (λ (m : ℕ). all_zero (part s (i + k) m)) e

@@ -1,16 +1,19 @@
 -- Laws of a list that is written over, and of a gap closed or opened.
 -- Assumes nothing.
-use mathlib.Core.Path.{◌≡◌, sym, ap, ◌∙◌}
+use mathlib.Core.Path.{◌≡◌, refl, sym, ap, ◌∙◌}
 use mathlib.Core.List.{List, [], ◌∷◌, ◌++◌, append_assoc, append-nil}
-use Prim.Native.Nat.{ℕ, suc, ◌+◌, ◌-◌, ◌*◌, ◌/◌, ◌%◌, ◌^◌, ◌≤◌, ◌<◌}
+use Prim.Native.Nat.{ℕ, ◌+◌, ◌-◌, ◌≤◌, ◌<◌}
 use native.Mathlib.Nat.{add-zero, zero-add, add_assoc}
 use native.Mathlib.Numerals.{add-one}
 use native.Mathlib.Omega.{arith}
-use lib.ListN.{length, get_or, set, take, drop, replicate, length-append, length-drop, take-append-drop, length-replicate, replicate-append-replicate, drop_of_length-le, get_or-append}
-use lib.Seq.{set_at, set_split, take_at, drop_at, drop-drop, length-take-le, take-suc, get_or-take, get_or-drop}
-use Rattle.octets.specs.Bytes.{part, splice, closed, bytes}
-use Rattle.octets.proofs.PartLaws.{part-add, part-cons, part_snoc, part_length, part_mid}
-use Rattle.octets.proofs.NumberLaws.{length-bytes, bytes_more}
+use lib.ListN.{length, set, take, drop, replicate, length-append, length-drop, take-append-drop, length-replicate, drop_of_length-le}
+use lib.Seq.{set_split, take_at, drop_at, drop-drop, length-take-le}
+use borrow.Rule.Slice.PartMut.{put_mid}
+use Rattle.std.specs.List.{copy_within}
+use Rattle.std.proofs.lemmas.List.Edits.{paste_all}
+use Rattle.std.proofs.lemmas.Slice.{put_mid-paste}
+use Rattle.octets.specs.Bytes.{part, splice, closed}
+use Rattle.octets.proofs.PartLaws.{part-add, part_length, part_mid}
 
 pub splice-none : (d : List ℕ) (i : ℕ) → splice d i [] ≡ d
 unfolding splice
@@ -41,16 +44,6 @@ unfolding splice
 splice-take d i v k e h =
     ap (λ (l : List ℕ). take (i + k) l) (sym (append_assoc (take i d) v (drop (i + length v) d)))
     ∙ take_at (take i d ++ v) (drop (i + length v) d) (i + k) (front d i v h ∙ ap (λ (x : ℕ). i + x) e)
-
--- what stands past the splice is as it was, and what stands before it
-pub splice-past : (d : List ℕ) (i : ℕ) (v : List ℕ) (k j : ℕ) → length v ≡ k → i ≤ length d → get_or (splice d i v) (i + k + j) 0 ≡ get_or d (i + k + j) 0
-splice-past d i v k j e h =
-    sym (get_or-drop (i + k) (splice d i v) j 0) ∙ ap (λ (l : List ℕ). get_or l j 0) (splice-drop d i v k e h) ∙ get_or-drop (i + k) d j 0
-
-pub splice-before : (d : List ℕ) (i : ℕ) (v : List ℕ) (j : ℕ) → j < i → i ≤ length d → get_or (splice d i v) j 0 ≡ get_or d j 0
-unfolding splice
-splice-before d i v j h l =
-    get_or-append (take i d) (v ++ drop (i + length v) d) 0 j (omega (arith, length-take-le i d l)) ∙ get_or-take i d j 0 h
 
 -- two splices, one behind the other
 pub splice-splice : (d : List ℕ) (i : ℕ) (v w : List ℕ) (k : ℕ) → length v ≡ k → i + k + length w ≤ length d
@@ -96,19 +89,6 @@ splice_snoc d i v k x e h =
     let b2 : i + k + 1 ≤ length d = omega arith in
     set-splice (splice d i v) (i + k) x b ∙ splice-splice d i v (x ∷ []) k e b2
 
-pub splice-cons : (d : List ℕ) (i : ℕ) (v : List ℕ) (x : ℕ) → i < length d → set (splice d (i + 1) v) i x ≡ splice d i (x ∷ v)
-unfolding splice
-splice-cons d i v x h =
-    let y : ℕ = get_or d i 0 in
-    let r : List ℕ = drop (i + 1 + length v) d in
-    let l : length (take i d) ≡ i = length-take-le i d (omega arith) in
-    let t : i + 1 + length v ≡ i + suc (length v) = omega arith in
-    ap (λ (k : ℕ). set (take k d ++ (v ++ r)) i x) (add-one i)
-    ∙ ap (λ (z : List ℕ). set (z ++ (v ++ r)) i x) (take-suc d i 0 h)
-    ∙ ap (λ (z : List ℕ). set z i x) (append_assoc (take i d) (y ∷ []) (v ++ r))
-    ∙ set_at (take i d) y (v ++ r) x i l
-    ∙ ap (λ (k : ℕ). take i d ++ (x ∷ (v ++ drop k d))) t
-
 -- ---- of a list that is cut at the ends of what is written
 
 pub splice_mid : (a x c w : List ℕ) (i : ℕ) → length a ≡ i → length x ≡ length w → splice (a ++ (x ++ c)) i w ≡ a ++ (w ++ c)
@@ -144,38 +124,25 @@ splice-head d i v w k e h =
     ∙ splice_mid (take i d) (part d i k) t v i l (part_length d i k h ∙ sym e)
     ∙ ap (λ (x : List ℕ). take i d ++ x) (sym (append_assoc v w (drop (i + k + length w) d)) ∙ ap (λ (n : ℕ). (v ++ w) ++ drop n d) z)
 
--- ---- a turn of each loop: d is the list at the start, s the list now
-
--- a loop that writes v, of k bytes so far, behind index i
+-- a loop that writes v, of k bytes so far, behind index i: d is the list at the start, s the list now
 pub splice_turn : (d : List ℕ) (i k x : ℕ) (s v w : List ℕ) → i + k < length d → length v ≡ k → s ≡ splice d i v → v ++ (x ∷ []) ≡ w
     → set s (i + k) x ≡ splice d i w
 splice_turn d i k x s v w h l e f =
     ap (λ (z : List ℕ). set z (i + k) x) e ∙ splice_snoc d i v k x l h ∙ ap (λ (z : List ℕ). splice d i z) f
 
-pub clear_turn : (d : List ℕ) (i k : ℕ) (s : List ℕ) → i + k < length d → s ≡ splice d i (replicate k 0)
-    → set s (i + k) 0 ≡ splice d i (replicate (k + 1) 0)
-clear_turn d i k s h e = splice_turn d i k 0 s (replicate k 0) _ h (length-replicate {A = ℕ} k 0) e (replicate-append-replicate {A = ℕ} k 1 0)
+-- ---- the methods of slices
 
-pub copy_turn : (d : List ℕ) (i : ℕ) (src : List ℕ) (at k : ℕ) (s : List ℕ) → i + k < length d → at + k < length src → s ≡ splice d i (part src at k)
-    → set s (i + k) (get_or src (at + k) 0) ≡ splice d i (part src at (k + 1))
-copy_turn d i src at k s h l e =
-    splice_turn d i k (get_or src (at + k) 0) s (part src at k) _ h (part_length src at k (omega arith)) e (sym (part_snoc src at k l))
+-- a part written over: v is what it holds now
+pub part_written : (i k : ℕ) (d v : List ℕ) → length v ≡ k → put_mid i k d v ≡ splice d i v
+unfolding splice
+part_written i k d v l = put_mid-paste i k d v v (length v) refl l refl ∙ paste_all d i v (length v) refl
 
-pub put64_turn : (d : List ℕ) (i v k : ℕ) (s : List ℕ) → i + k < length d → k < 8 → s ≡ splice d i (bytes k (v / 2 ^ (64 - 8 * k)))
-    → set s (i + k) (v / 2 ^ (56 - 8 * k) % 256) ≡ splice d i (bytes (k + 1) (v / 2 ^ (64 - 8 * (k + 1))))
-put64_turn d i v k s h l e =
-    splice_turn d i k (v / 2 ^ (56 - 8 * k) % 256) s (bytes k (v / 2 ^ (64 - 8 * k))) _ h (length-bytes k _) e (sym (bytes_more k v l))
-
--- bytes moved down are read past what is written
-pub move_turn : (d : List ℕ) (i gap k : ℕ) (s : List ℕ) → i + gap + k < length d → s ≡ splice d i (part d (i + gap) k)
-    → set s (i + k) (get_or s (i + gap + k) 0) ≡ splice d i (part d (i + gap) (k + 1))
-move_turn d i gap k s h e =
-    let lv : length (part d (i + gap) k) ≡ k = part_length d (i + gap) k (omega arith) in
-    let j : i + gap + k ≡ i + k + gap = omega arith in
-    let r : get_or s (i + gap + k) 0 ≡ get_or d (i + gap + k) 0 =
-    ap (λ (x : List ℕ). get_or x (i + gap + k) 0) e ∙ ap (λ (x : ℕ). get_or (splice d i (part d (i + gap) k)) x 0) j ∙ splice-past d i (part d (i + gap) k) k gap lv (omega arith)
-    ∙ ap (λ (x : ℕ). get_or d x 0) (sym j) in
-    ap (λ (x : ℕ). set s (i + k) x) r ∙ copy_turn d i d (i + gap) k s (omega arith) h e
+pub copy_within-splice : (d : List ℕ) (at j i n : ℕ) → at + n ≡ j → at + n ≤ length d → copy_within d at j i ≡ splice d i (part d at n)
+unfolding splice part
+copy_within-splice d at j i n e h =
+    let k : j - at ≡ n = omega arith in
+    let l : length (take n (drop at d)) ≡ n = part_length d at n h in
+    rw (k, l) (append_assoc (take i d) (take n (drop at d)) (drop (i + n) d))
 
 pub closed_is : (d : List ℕ) (i gap n : ℕ) (s t : List ℕ) → i + gap + n ≤ length d → s ≡ splice d i (part d (i + gap) n) → t ≡ splice s (i + n) (replicate gap 0)
     → t ≡ closed d i gap n
@@ -183,25 +150,3 @@ unfolding closed
 closed_is d i gap n s t h e f =
     f ∙ ap (λ (x : List ℕ). splice x (i + n) (replicate gap 0)) e
     ∙ splice-splice d i (part d (i + gap) n) (replicate gap 0) n (part_length d (i + gap) n h) (omega (arith, length-replicate {A = ℕ} gap 0))
-
--- bytes moved up are written from the last, and read before what is written
-pub open_turn : (d : List ℕ) (i gap n k : ℕ) (s : List ℕ) → 0 < k → k ≤ n → i + gap + n ≤ length d → s ≡ splice d (i + gap + k) (part d (i + k) (n - k))
-    → set s (i + gap + (k - 1)) (get_or s (i + (k - 1)) 0) ≡ splice d (i + gap + (k - 1)) (part d (i + (k - 1)) (n - (k - 1)))
-open_turn d i gap n k s p l h e =
-    let j : ℕ = k - 1 in
-    let v : List ℕ = part d (i + k) (n - k) in
-    let up : i + gap + k ≡ i + gap + j + 1 = omega arith in
-    let one : n - j ≡ n - k + 1 = omega arith in
-    let next : i + j + 1 ≡ i + k = omega arith in
-    let r : get_or s (i + j) 0 ≡ get_or d (i + j) 0 =
-    ap (λ (x : List ℕ). get_or x (i + j) 0) e ∙ splice-before d (i + gap + k) v (i + j) (omega arith) (omega arith) in
-    let w : part d (i + j) (n - j) ≡ get_or d (i + j) 0 ∷ v =
-    ap (λ (x : ℕ). part d (i + j) x) one ∙ part-cons d (i + j) (n - k) (omega arith) ∙ ap (λ (x : ℕ). get_or d (i + j) 0 ∷ part d x (n - k)) next in
-    ap (λ (x : ℕ). set s (i + gap + j) x) r
-    ∙ ap (λ (x : List ℕ). set x (i + gap + j) (get_or d (i + j) 0)) (e ∙ ap (λ (x : ℕ). splice d x v) up)
-    ∙ splice-cons d (i + gap + j) v (get_or d (i + j) 0) (omega arith)
-    ∙ ap (λ (x : List ℕ). splice d (i + gap + j) x) (sym w)
-
-pub open_start : (d : List ℕ) (i gap n : ℕ) → d ≡ splice d (i + gap + n) (part d (i + n) (n - n))
-unfolding part
-open_start d i gap n = let e : n - n ≡ 0 = omega arith in sym (ap (λ (x : ℕ). splice d (i + gap + n) (part d (i + n) x)) e ∙ splice-none d (i + gap + n))

@@ -1,7 +1,7 @@
 -- Laws of a number behind a prefix, and of lists of numbers of four bytes.
 -- Assumes nothing.
 use mathlib.Core.Path.{◌≡◌, refl, sym, ap, ◌∙◌}
-use mathlib.Core.Bool.{Bool, true, false, ◌||◌}
+use mathlib.Core.Bool.{◌||◌}
 use mathlib.Core.List.{List, [], ◌∷◌, ◌++◌, append_assoc}
 use Prim.Native.Nat.{ℕ, zero, suc, ◌+◌, ◌-◌, ◌*◌, ◌/◌, ◌%◌, ◌≤◌, ◌<◌}
 use native.Mathlib.Nat.{add-zero}
@@ -9,7 +9,6 @@ use native.Mathlib.Omega.{arith}
 use lib.ListN.{length, get_or, length-append}
 use lib.Seq.{get_or-append-add}
 use lib.Dec.{eqb}
-use borrow.Author.Tests.{eq-eqb, ne_eqb}
 use Rattle.octets.specs.Bytes.{Bytes, get16, get32, be16, be32, part}
 use Rattle.octets.specs.Words.{numbers, words, elem}
 use Rattle.octets.proofs.PartLaws.{part_none, part-add}
@@ -123,13 +122,3 @@ module _ (x : ℕ) (s : List ℕ) (i n k : ℕ) where
   elem_open : k < n → elem x (numbers s i (n - k)) ≡ (eqb (get32 s i) x || elem x (numbers s (i + 4) (n - (k + 1))))
   unfolding elem numbers
   elem_open h = let e : n - k ≡ suc (n - (k + 1)) = omega arith in ap (λ (y : ℕ). elem x (numbers s i y)) e
-
-  pub elem_turn : k < n → (get32 s i ≡ x → ⊥) → elem x (numbers s i (n - k)) ≡ elem x (numbers s (i + 4) (n - (k + 1)))
-  elem_turn h f = elem_open h ∙ ap (λ (y : Bool). y || elem x (numbers s (i + 4) (n - (k + 1)))) (ne_eqb (get32 s i) x f)
-
-  pub elem-here : k < n → get32 s i ≡ x → elem x (numbers s i (n - k)) ≡ true
-  elem-here h f = elem_open h ∙ ap (λ (y : Bool). y || elem x (numbers s (i + 4) (n - (k + 1)))) (eq-eqb (get32 s i) x f)
-
-  pub elem_end : n ≤ k → elem x (numbers s i (n - k)) ≡ false
-  unfolding elem numbers
-  elem_end h = let e : n - k ≡ 0 = omega arith in ap (λ (y : ℕ). elem x (numbers s i y)) e

@@ -1,5 +1,6 @@
 -- Lists of bytes: big-endian numbers, a part of a list, a list written over from an index, a gap closed or opened.
 -- Assumes nothing.
+use Rattle.std.specs.List.{list_all}
 use Rattle.std.specs.Prelude.{Bool, true, false, ◌&&◌, not, List, [], ◌∷◌, ◌++◌, ℕ, zero, suc, ◌+◌, ◌*◌, ◌/◌, ◌%◌, ◌<◌, eqb, leb, get_or, take, drop, length, replicate}
 
 -- each element is a byte
@@ -62,8 +63,7 @@ between low high n = leb low n && leb n high
 
 -- every element is zero
 unfoldable pub all_zero : List ℕ → Bool
-all_zero [] = true
-all_zero (x ∷ xs) = eqb x 0 && all_zero xs
+all_zero s = list_all (λ x. eqb x 0) s
 
 -- two lists are the same
 unfoldable pub same : List ℕ → List ℕ → Bool

@@ -4,14 +4,13 @@
 ghost use Rattle.std.specs.Prelude.{◌≡◌, true};
 ghost use Rattle.runs.specs.Alike.{is_sound};
 
-use records::{Record, is_held, record_at};
+use records::{is_held, record_at};
+use std::io::Error;
 use store::editions::LENGTH_2;
 use store::field::number_at;
 
-// The descriptors of standard input and output.
+// The descriptor of standard input.
 const STANDARD_INPUT: i32 = 0;
-
-const STANDARD_OUTPUT: i32 = 1;
 
 // One byte more than the longest store: an input that fills it is none.
 const INPUT: usize = LENGTH_2 + 1;
@@ -19,44 +18,30 @@ const INPUT: usize = LENGTH_2 + 1;
 // Where the header has the number of keys.
 const KEY_COUNT: usize = 2;
 
-fn text(s: &[u8]) {
-    io::write_all(STANDARD_OUTPUT, s);
-}
-
-// Eight hex digits, and what stands behind them.
-fn word(x: u32, behind: &[u8]) {
-    io::print_hex(STANDARD_OUTPUT, x as u64, 8);
-    text(behind);
-}
-
-fn line(r: Record) {
-    word(r.issuer, b" ");
-    word(r.serial, b" ");
-    word(r.start, b" ");
-    word(r.end, b"\n");
-}
-
-fn lines(s: &[u8])
+fn lines(rt: &impl Print, s: &[u8]) -> Result<(), Error>
     requires { is_sound s.now ≡ true }
 {
-    let n = number_at(s, KEY_COUNT);
-    let mut i = 0;
-    while i < n {
-        line(record_at(s, i));
-        i += 1;
+    for i in 0..number_at(s, KEY_COUNT) {
+        let r = record_at(s, i);
+        println!(rt;
+            "{:08x} {:08x} {:08x} {:08x}",
+            r.issuer, r.serial, r.start, r.end
+        )?;
     }
+    Ok(())
 }
 
-fn periods(s: &[u8]) {
+fn periods(rt: &impl Print, s: &[u8]) -> Result<(), Error> {
     if is_held(s) {
-        lines(s);
+        lines(rt, s)
     } else {
-        text(b"bad\n");
+        println!(rt; "bad")
     }
 }
 
-fn main() {
+// An output that can't be written ends the program, and nothing is said.
+fn main(rt: HostRuntime) {
     let mut input = [0u8; INPUT];
     let n = io::read_full(STANDARD_INPUT, &mut input);
-    periods(&input[..n]);
+    let _ = periods(&rt, &input[..n]);
 }

@@ -11,11 +11,10 @@ use borrow.Author.Tests.{ltb-true, ltb-false}
 use Rattle.octets.specs.Bytes.{get16, get32}
 use Rattle.octets.proofs.BoolLaws.{clash}
 use Rattle.store.specs.declared.Limits.{Limits}
-use Rattle.store.specs.declared.Edition.{Edition}
-use Rattle.store.specs.declared.Edition.TheVariants.{Known, Unknown}
+use Rattle.std.proofs.Common.{Option, Some, None}
 use Rattle.store.specs.Layout.{record_at, edition_of}
 use Rattle.store.specs.Store.{key_count, sound}
-use Rattle.store.proofs.SoundLaws.{sound-says}
+use Rattle.store.proofs.SoundLaws.{sound_says}
 use Rattle.runs.specs.Alike.{in_key, in_record_key, in_store_key, sound_in}
 use Rattle.runs.proofs.RangeLaws.{get16-same, get32-same, before-key, past-key}
 use Rattle.records.specs.Claims.{ShowsNoKey}
@@ -40,9 +39,9 @@ past-records (suc n) r k h = rw (past-key (record_at r + 8) k (omega arith), pas
 
 -- ---- a sound store is one of an edition
 
-pub held_in_lem : (E : Edition) (s : List ℕ) → sound_in E s ≡ true → (L : Limits) × (sound L s ≡ true)
-held_in_lem Unknown s h = clash false h refl
-held_in_lem (Known L) s h = (L, h)
+pub held_in_lem : (E : Option Limits) (s : List ℕ) → sound_in E s ≡ true → (L : Limits) × (sound L s ≡ true)
+held_in_lem None s h = clash false h refl
+held_in_lem (Some L) s h = (L, h)
 
 -- ---- what is shown
 
@@ -50,7 +49,7 @@ pub shows-no-key : ShowsNoKey
 unfolding in_store_key
 shows-no-key s s' t d =
     let p = held_in_lem (edition_of (length s)) s t in
-    let w = sound-says p.0 s p.1 in
+    let w = sound_says p.0 s p.1 in
     let n : ℕ = key_count s in
     let gap : (i k : ℕ) → record_at i ≤ k + 12 → k < record_at i + 8 → lib.ListN.get_or s k 0 ≡ lib.ListN.get_or s' k 0 =
     λ i k h l. d.same_byte k (between-keys n 0 i k h l) in

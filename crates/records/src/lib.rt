@@ -11,7 +11,7 @@ use octets::get32_at;
 use store::editions::edition_of;
 use store::field::number_at;
 use store::sound::is_sound;
-use store::{Edition, KEYS_AT, PEER, RECORD};
+use store::{KEYS_AT, PEER, RECORD};
 
 // Where the header has the offset of peers.
 const PEERS_OFFSET: usize = 8;
@@ -28,13 +28,11 @@ pub struct Record {
 }
 
 // Whether the store has the length of an edition and is sound in it.
+#[tactic(auto, using(store::proofs::SearchLaws::edition_says))]
 pub fn is_held(s: &[u8]) -> bool
     ensures { result ≡ is_sound s.now }
 {
-    match edition_of(s.len()) {
-        Edition::Known(lim) => is_sound(s, lim),
-        Edition::Unknown => false,
-    }
+    edition_of(s.len()).is_some_and(|lim| is_sound(s, lim))
 }
 
 // The record of index i.

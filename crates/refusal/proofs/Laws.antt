@@ -6,7 +6,8 @@ use mathlib.Core.Bool.{Bool, true, false}
 use mathlib.Core.Logic.{◌⊎◌, inl, inr}
 use Prim.Native.Nat.{ℕ, zero, suc}
 use native.Mathlib.Omega.{arith}
-use Rattle.refusal.specs.House.{house_number, Answer, house, gives, asks, unless_refused}
+use Rattle.std.specs.Prelude.{Result, Ok, Err}
+use Rattle.refusal.specs.House.{house_number, Answer, house, gives, answer_as, asks, unless_refused}
 use Rattle.refusal.specs.declared.Refusal.{Refusal}
 use Rattle.refusal.specs.declared.Refusal.TheVariants.{StoreLength, OutputLength, SessionClosed, MessageShort, NoSessionInit, SameIdentity, UnitLength, MacDiffers, UnitContents, DataLength, NoKey, StoreUnsound, KeyLength, NoRoom}
 
@@ -69,11 +70,14 @@ gives-number m n e = cc
 pub not-both : {A : Type 0} (m n : ℕ) → house m ≡ gives n → A
 not-both m n e = let z : ◌≡◌ {A = ℕ} 0 1 = cc in absurd (omega arith)
 
--- ---- what a lent buffer holds then
+-- answers with the same number are the same answer, where what is given has one number each
+pub answer-one : {T : Type 0} (value : T → ℕ) → ((x y : T) → value x ≡ value y → x ≡ y) → (a b : Result T Refusal) → answer_as value a ≡ answer_as value b → a ≡ b
+answer-one value one (Ok x) (Ok y) e = ap Ok (one x y (gives-number (value x) (value y) e))
+answer-one value one (Ok x) (Err h) e = not-both (house_number h) (value x) (sym e)
+answer-one value one (Err g) (Ok y) e = not-both (house_number g) (value y) e
+answer-one value one (Err g) (Err h) e = ap Err (one_number g h (house-number (house_number g) (house_number h) e))
 
--- where a call answers, the old bytes do not count
-pub buffer-made : {a : Answer} (made none old key : List ℕ) → gives 0 ≡ a → key ≡ unless_refused a made none → key ≡ unless_refused a made old
-buffer-made made none old key e k = k ∙ ap (λ (x : Answer). unless_refused x made none) (sym e) ∙ ap (λ (x : Answer). unless_refused x made old) e
+-- ---- what a lent buffer holds then
 
 pub buffer-kept : {a : Answer} (n : ℕ) (made old : List ℕ) → house n ≡ a → old ≡ unless_refused a made old
 buffer-kept n made old e = ap (λ (x : Answer). unless_refused x made old) e

@@ -1,6 +1,6 @@
 -- The numbers of the house's refusals (document 01, "Refusals of the house"; document 02, change request 6), and what a call answers in the paper's numbers.
 -- Assumes nothing.
-use Rattle.std.specs.Prelude.{Bool, true, false, List, ℕ}
+use Rattle.std.specs.Prelude.{Bool, true, false, List, ℕ, Result, Ok, Err}
 use Rattle.refusal.specs.declared.Refusal.{Refusal}
 use Rattle.refusal.specs.declared.Refusal.TheVariants.{StoreLength, OutputLength, SessionClosed, MessageShort, NoSessionInit, SameIdentity, UnitLength, MacDiffers, UnitContents, DataLength, NoKey, StoreUnsound, KeyLength, NoRoom}
 
@@ -24,6 +24,11 @@ house_number NoRoom = 14
 pub data Answer : Type 0 where
   house : ℕ → Answer
   gives : ℕ → Answer
+
+-- a call's answer in the paper's numbers: that of the refusal, or the value of what is given
+abbrev pub answer_as : {T : Type 0} → (T → ℕ) → Result T Refusal → Answer
+answer_as value (Ok x) = gives (value x)
+answer_as value (Err h) = house (house_number h)
 
 -- what follows where the test holds, else the refusal n; in a row, the first test that fails decides
 abbrev pub asks : Bool → ℕ → Answer → Answer

@@ -1,11 +1,11 @@
 // The refusals of the house (document 01, "Refusals of the house"; H14 is of document 02, change request 6).
 #![tactic(auto)]
 
-ghost use Rattle.std.specs.Prelude.{◌≡◌};
-ghost use Rattle.refusal.specs.House.{house, house_number};
+ghost use Rattle.std.specs.Prelude.{◌≡◌, ◌^◌, ◌<◌, IfOk};
+ghost use Rattle.refusal.specs.House.{house, house_number, answer_as};
 ghost use Rattle.refusal.specs.Code.{code};
 
-#[derive(Clone, Copy)]
+#[derive(Clone, Copy, Debug, PartialEq, Eq)]
 pub enum Refusal {
     // H1: the store buffer has the length of no edition, neither 3,852 nor 38,012 bytes; in a conversion, not that of its side's edition.
     StoreLength,
@@ -38,30 +38,45 @@ pub enum Refusal {
 }
 
 // The number that the papers give the refusal.
-pub fn house_number(h: Refusal) -> u8
-    ensures { result ≡ house_number h }
-{
-    match h {
-        Refusal::StoreLength => 1,
-        Refusal::OutputLength => 2,
-        Refusal::SessionClosed => 3,
-        Refusal::MessageShort => 4,
-        Refusal::NoSessionInit => 5,
-        Refusal::SameIdentity => 6,
-        Refusal::UnitLength => 7,
-        Refusal::MacDiffers => 8,
-        Refusal::UnitContents => 9,
-        Refusal::DataLength => 10,
-        Refusal::NoKey => 11,
-        Refusal::StoreUnsound => 12,
-        Refusal::KeyLength => 13,
-        Refusal::NoRoom => 14,
+impl From<Refusal> for u8 {
+    ghost from_gives = { λ h n. n ≡ house_number h };
+
+    fn from(h: Refusal) -> u8 {
+        match h {
+            Refusal::StoreLength => 1,
+            Refusal::OutputLength => 2,
+            Refusal::SessionClosed => 3,
+            Refusal::MessageShort => 4,
+            Refusal::NoSessionInit => 5,
+            Refusal::SameIdentity => 6,
+            Refusal::UnitLength => 7,
+            Refusal::MacDiffers => 8,
+            Refusal::UnitContents => 9,
+            Refusal::DataLength => 10,
+            Refusal::NoKey => 11,
+            Refusal::StoreUnsound => 12,
+            Refusal::KeyLength => 13,
+            Refusal::NoRoom => 14,
+        }
     }
 }
 
 // The number that C is given.
-pub fn refusal_code(h: Refusal) -> i32
-    ensures { result ≡ code (house (house_number h)) }
+impl From<Refusal> for i32 {
+    ghost from_gives = { λ h z. z ≡ code (house (house_number h)) };
+
+    fn from(h: Refusal) -> i32 {
+        -i32::from(u8::from(h))
+    }
+}
+
+// What C is told of a call that gives a number.
+pub fn told(answer: Result<usize, Refusal>) -> i32
+    requires { IfOk answer (λ n. n < 2 ^ 31) }
+    ensures { result ≡ code (answer_as (λ n. n) answer) }
 {
-    0 - (house_number(h) as i32)
+    match answer {
+        Ok(n) => n as i32,
+        Err(h) => i32::from(h),
+    }
 }

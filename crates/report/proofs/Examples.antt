@@ -93,11 +93,11 @@ classes = refl
 
 -- a sum of peers of 4,294,967,293 takes two more, and one of 4,294,967,294 does not
 abbrev peers_before : ℕ → Tally
-peers_before n = record { held = 7; fit = 7; ended = 0; early = 0; reversed = 0; peers = n }
+peers_before n = record { held = 7; classes = record { fit = 7; ended = 0; early = 0; reversed = 0 }; peers = n }
 
 sums : (line_of (Names 0x1800abcd (peers_before 4294967293)) (99 ∷ 46 ∷ 115 ∷ 116 ∷ []) (encode edition1 (key ∷ []))).report
     ∷ (line_of (Names 0x1800abcd (peers_before 4294967294)) (99 ∷ 46 ∷ 115 ∷ 116 ∷ []) (encode edition1 (key ∷ []))).report
     ∷ []
-    ≡ Names 0x1800abcd (record { held = 8; fit = 8; ended = 0; early = 0; reversed = 0; peers = 4294967295 }) ∷ Over ∷ []
+    ≡ Names 0x1800abcd (record { held = 8; classes = record { fit = 8; ended = 0; early = 0; reversed = 0 }; peers = 4294967295 }) ∷ Over ∷ []
 unfolding line_of is_name has_zero counts_of counts_in edition_of edition_in tally_of classes_of sum_of encode header key_record key_records peers_of words numbers entries entries_from sound all_hold header_ok counts_ok sum_before sums_ok new_key unique_ok all_odd parity_ok unused_ok all_below all_zero part ones ones_in
 sums = refl

@@ -1,25 +1,24 @@
 -- The bytes after a record is put behind the others.
 -- Assumes nothing.
-use mathlib.Core.Path.{◌≡◌, refl, sym, ap, ◌∙◌, subst}
+use mathlib.Core.Path.{◌≡◌, refl, sym, ap, ◌∙◌}
 use mathlib.Core.Bool.{true}
 use mathlib.Core.List.{List, [], ◌∷◌, ◌++◌, append_assoc, append-nil}
-use Prim.Native.Nat.{ℕ, ◌+◌, ◌*◌, ◌-◌, ◌≤◌, ◌<◌}
+use Prim.Native.Nat.{ℕ, ◌+◌, ◌*◌, ◌-◌, ◌/◌, ◌≤◌, ◌<◌}
 use native.Mathlib.Nat.{zero-add}
 use native.Mathlib.Omega.{arith}
 use lib.ListN.{length, replicate, length-append, length-replicate}
-use Rattle.octets.specs.Bytes.{Bytes, part, splice}
+use Rattle.octets.specs.Bytes.{Bytes, splice}
 use Rattle.octets.specs.Words.{words}
-use Rattle.octets.proofs.PartLaws.{part_length}
 use Rattle.octets.proofs.SpliceLaws.{splice_mid}
-use Rattle.octets.proofs.WordLaws.{length-numbers, length-words, words_append, part-words}
+use Rattle.octets.proofs.WordLaws.{length-numbers, length-words, words_append}
 use Rattle.store.specs.Store.{Entry, header, key_record, key_records, peers_of, encode, entries, key_count, peer_count, sound}
 use Rattle.store.specs.declared.Limits.{Limits}
 use Rattle.store.proofs.EncodingLaws.{LongKeys, front_length, key_record-length, peers_of-append, key_records-append, encode_as}
-use Rattle.store.proofs.SoundLaws.{Sound, sound-says}
+use Rattle.store.proofs.SoundLaws.{Sound, sound_says}
 use Rattle.store.proofs.DecodeLaws.{entries_from-long, entries-length, peers-length, encode-entries}
-use Rattle.requests.specs.declared.Addition.{Addition}
+use Rattle.requests.specs.declared.entry.Addition.{Addition}
 use Rattle.requests.specs.Edit.{with_counts}
-use Rattle.requests.specs.Worked.{new_entry}
+use Rattle.requests.specs.Worked.{peer_numbers, new_entry}
 use Rattle.requests.proofs.RecordLaws.{header-counts}
 use Rattle.requests.proofs.AroundLaws.{zeros-join}
 
@@ -118,22 +117,20 @@ module _ (L : Limits) (es : List Entry) (e : Entry) (n m k : ℕ) (long : LongKe
       ∙ sym encode_more
 
 -- what the calls of an addition leave
-pub added-written : (L : Limits) (s msg : List ℕ) (new : Addition) (n m : ℕ) (t u v : List ℕ) → Bytes s → Bytes msg → sound L s ≡ true
-    → key_count s < L.keys → peer_count s + new.count ≤ L.peers → new.kmac + 24 ≤ length msg → new.peers + 4 * new.count ≤ length msg
-    → n ≡ key_count s → m ≡ peer_count s
-    → t ≡ splice s (12 + 44 * n) (key_record m (new_entry new msg))
-    → u ≡ splice t (12 + 44 * L.keys + 4 * m) (part msg new.peers (4 * new.count))
-    → v ≡ with_counts u (n + 1) (m + new.count)
-    → v ≡ encode L (entries L s ++ (new_entry new msg ∷ []))
+pub added-written : (L : Limits) (s : List ℕ) (new : Addition) (n m : ℕ) (t u v : List ℕ) → Bytes s → sound L s ≡ true
+    → key_count s < L.keys → peer_count s + length new.peers.bytes.now / 4 ≤ L.peers → n ≡ key_count s → m ≡ peer_count s
+    → t ≡ splice s (12 + 44 * n) (key_record m (new_entry new))
+    → u ≡ splice t (12 + 44 * L.keys + 4 * m) (words (peer_numbers new.peers))
+    → v ≡ with_counts u (n + 1) (m + length new.peers.bytes.now / 4)
+    → v ≡ encode L (entries L s ++ (new_entry new ∷ []))
 unfolding entries
-added-written L s msg new n m t u v b bm h hn hm hk hp en em et eu ev =
-    let w : Sound L s = sound-says L s h in
+added-written L s new n m t u v b h hn hm en em et eu ev =
+    let w : Sound L s = sound_says L s h in
     let size : length s ≡ 12 + 44 * L.keys + 4 * L.peers = w.size in
-    let e : Entry = new_entry new msg in
+    let e : Entry = new_entry new in
+    let c : ℕ = length new.peers.bytes.now / 4 in
     let K : ℕ = L.keys in
-    ev ∙ ap (λ (x : List ℕ). with_counts x (n + 1) (m + new.count))
-    (eu ∙ ap (splice t (12 + 44 * K + 4 * m)) (part-words msg bm new.count new.peers hp)
-    ∙ ap (λ (x : List ℕ). splice x (12 + 44 * K + 4 * m) (words e.peers)) (et ∙ ap (λ (x : List ℕ). splice x (12 + 44 * n) (key_record m e)) (encode-entries L s b h)))
-    ∙ put-behind L (entries L s) e n m new.count (entries_from-long L s (key_count s) 0 (omega arith)) (part_length msg new.kmac 24 hk)
-    (en ∙ sym (entries-length L s)) (em ∙ sym (peers-length L s w)) (sym (length-numbers msg new.peers new.count))
-    (subst (λ (x : ℕ). x < K) (sym en) hn) (subst (λ (x : ℕ). x + new.count ≤ L.peers) (sym em) hm)
+    ev ∙ ap (λ (x : List ℕ). with_counts x (n + 1) (m + c))
+    (eu ∙ ap (λ (x : List ℕ). splice x (12 + 44 * K + 4 * m) (words e.peers)) (et ∙ ap (λ (x : List ℕ). splice x (12 + 44 * n) (key_record m e)) (encode-entries L s b h)))
+    ∙ put-behind L (entries L s) e n m c (entries_from-long L s (key_count s) 0 (omega arith)) new.kmac_long
+    (en ∙ sym (entries-length L s)) (em ∙ sym (peers-length L s w)) (sym (length-numbers new.peers.bytes.now 0 c)) (omega arith) (omega arith)

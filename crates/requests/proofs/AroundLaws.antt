@@ -16,43 +16,13 @@ use Rattle.store.specs.Store.{Entry, header, key_record, key_records, peers_of, 
 use Rattle.store.specs.Request.{remove_at, update_at}
 use Rattle.store.specs.declared.Limits.{Limits}
 use Rattle.store.proofs.EncodingLaws.{LongKeys, peers_of-append, key_records-append, encode_as}
-use Rattle.store.proofs.SoundLaws.{Sound, sound-says, sound_bounded}
+use Rattle.store.proofs.SoundLaws.{Sound, sound_says, sound_bounded}
 use Rattle.store.proofs.SearchLaws.{Room, room}
-use Rattle.requests.specs.declared.Counts.{Counts}
-use Rattle.requests.specs.Edit.{Counted}
 use Rattle.store.proofs.DecodeLaws.{entries_from-length, entries_from-split, entries_from-long, peers-before, peers-length, encode-entries}
 
--- the counts of a sound store and of its record i, as they were read
-pub record Fit (L : Limits) (s : List ℕ) (i : ℕ) (q : Counts) : Type 0 where
-  pub size : length s ≡ 12 + 44 * L.keys + 4 * L.peers
-  pub total_fits : 12 + 44 * L.keys + 4 * L.peers < 65536
-  pub place : i < q.keys
-  pub keys_fit : q.keys ≤ L.keys
-  pub inside : q.first + q.count ≤ q.peers
-  pub peers_fit : q.peers ≤ L.peers
-
-pub fit : (L : Limits) (s : List ℕ) (i : ℕ) (q : Counts) → Room L s i → Counted s i q → Fit L s i q
-fit L s i q r c =
-    let keys : q.keys ≡ key_count s = c.keys_are in
-    let peers : q.peers ≡ peer_count s = c.peers_are in
-    let own : q.first ≡ first s i = c.first_is in
-    let number : q.count ≡ count s i = c.count_is in
-    let place : i < key_count s = r.counted in
-    let inside : first s i + count s i ≤ peer_count s = r.inside in
-    let n : key_count s ≤ L.keys = r.framed.keys_fit in
-    let m : peer_count s ≤ L.peers = r.framed.peers_fit in
-    record {
-      size = r.framed.size;
-      total_fits = r.framed.total_fits;
-      place = omega arith;
-      keys_fit = omega arith;
-      inside = omega arith;
-      peers_fit = omega arith;
-    }
-
--- they fit where the store is sound and has that record
-pub fit_read : {L : Limits} {s : List ℕ} {i : ℕ} {q : Counts} → Bytes s → sound L s ≡ true → i < key_count s → Counted s i q → Fit L s i q
-fit_read {L} {s} {i} {q} b t h c = fit L s i q (room L s i b t h) c
+-- where the counts are read
+pub record_inside : (L : Limits) (s : List ℕ) (i : ℕ) → Bytes s → sound L s ≡ true → i < key_count s → (i < 65536) × (record_at i + 44 ≤ length s)
+record_inside L s i b t h = let r : Room L s i = room L s i b t h in (omega arith, omega arith)
 
 -- an entry between others, within the limits: i entries before it, n in all, m peers in all, f before its own k
 pub record Parts (L : Limits) (pre : List Entry) (e : Entry) (post : List Entry) (i n m f k : ℕ) : Type 0 where
@@ -68,6 +38,24 @@ pub record Parts (L : Limits) (pre : List Entry) (e : Entry) (post : List Entry)
   pub peers_fit : m ≤ L.peers
   pub small : L.peers < 65536
 
+-- the same parts, with another entry in the middle, of k' peers, and m' in all
+pub parts-with : (L : Limits) (pre : List Entry) (e : Entry) (post : List Entry) (i n m f k : ℕ) → Parts L pre e post i n m f k
+    → (e' : Entry) (m' k' : ℕ) → length e'.kmac ≡ 24 → k' ≡ length e'.peers → m' ≡ f + (k' + length (peers_of post)) → m' ≤ L.peers → Parts L pre e' post i n m' f k'
+parts-with L pre e post i n m f k p e' m' k' long count peers fits =
+    record {
+      long_pre = p.long_pre;
+      long = long;
+      long_post = p.long_post;
+      place = p.place;
+      keys = p.keys;
+      peers = peers;
+      first_is = p.first_is;
+      count_is = count;
+      keys_fit = p.keys_fit;
+      peers_fit = fits;
+      small = p.small;
+    }
+
 pub record Around (L : Limits) (s : List ℕ) (i n m f k : ℕ) : Type 0 where
   pub pre : List Entry
   pub e : Entry
@@ -80,7 +68,7 @@ pub around : (L : Limits) (s : List ℕ) (i n m f k : ℕ) → Bytes s → sound
     → n ≡ key_count s → m ≡ peer_count s → f ≡ first s i → k ≡ count s i → Around L s i n m f k
 unfolding entries peers_of
 around L s i n m f k b t h en em ef ek =
-    let w : Sound L s = sound-says L s t in
+    let w : Sound L s = sound_says L s t in
     let r : ℕ = key_count s - suc i in
     let pre : List Entry = entries_from L s 0 i in
     let e : Entry = entry_at L s i in

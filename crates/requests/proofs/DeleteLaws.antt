@@ -83,13 +83,13 @@ module _ (L : Limits) (pre : List Entry) (e : Entry) (post : List Entry) (i n m 
       ∙ sym without_record
 
 -- what the calls of a removal leave
-pub removed_written : (L : Limits) (s msg : List ℕ) (i n m f k : ℕ) (t u v : List ℕ) → Around L s i n m f k
-    → t ≡ encode L (update_at i (with_peers (numbers msg 0 0)) (entries L s))
+pub removed_written : (L : Limits) (s : List ℕ) (i n m f k : ℕ) (t u v : List ℕ) → Around L s i n m f k
+    → t ≡ encode L (update_at i (with_peers (numbers [] 0 0)) (entries L s))
     → u ≡ closed t (12 + 44 * i) 44 (44 * (n - i - 1))
     → v ≡ splice u 2 (be16 (n - 1))
     → v ≡ encode L (remove_at i (entries L s))
 unfolding numbers
-removed_written L s msg i n m f k t u v o et eu ev =
+removed_written L s i n m f k t u v o et eu ev =
     let p : Parts L o.pre o.e o.post i n m f k = o.parts in
     let fits : m ≤ L.peers = p.peers_fit in
     ev ∙ ap (λ (x : List ℕ). splice x 2 (be16 (n - 1)))

@@ -1,3 +1,4 @@
+pub mod EntryLaws
 pub mod RecordLaws
 pub mod AroundLaws
 pub mod ValidityLaws
@@ -5,3 +6,4 @@ pub mod AddLaws
 pub mod PeersLaws
 pub mod DeleteLaws
 pub mod ResultLaws
+pub mod HeldLaws

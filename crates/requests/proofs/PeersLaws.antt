@@ -2,22 +2,23 @@
 -- Assumes nothing.
 use mathlib.Core.Path.{◌≡◌, sym, ap, ◌∙◌}
 use mathlib.Core.List.{List, ◌∷◌, ◌++◌, append_assoc, append-nil}
-use Prim.Native.Nat.{ℕ, ◌+◌, ◌*◌, ◌-◌, ◌≤◌, ◌<◌}
+use Prim.Native.Nat.{ℕ, ◌+◌, ◌*◌, ◌-◌, ◌/◌, ◌%◌, ◌≤◌, ◌<◌}
 use native.Mathlib.Omega.{arith}
 use lib.ListN.{length, take, drop, replicate, length-append, length-replicate, take-append-drop}
 use lib.Seq.{drop_at, drop-drop, length-take-le}
-use Rattle.octets.specs.Bytes.{Bytes, be16, be32, part, splice, closed, opened}
+use Rattle.octets.specs.Bytes.{be16, be32, part, splice, closed, opened}
 use Rattle.octets.specs.Words.{numbers, words}
 use Rattle.octets.proofs.PartLaws.{part_mid}
 use Rattle.octets.proofs.SpliceLaws.{splice_mid, splice-head}
-use Rattle.octets.proofs.WordLaws.{length-numbers, length-words, part-words}
+use Rattle.octets.proofs.WordLaws.{length-numbers, length-words}
 use Rattle.store.specs.Store.{Entry, header, key_record, key_records, peers_of, encode, entries}
 use Rattle.store.specs.Request.{update_at, with_peers}
 use Rattle.store.specs.declared.Limits.{Limits}
 use Rattle.store.proofs.EncodingLaws.{front_length, key_record-length, key_records-length}
 use Rattle.requests.specs.Edit.{with_counts, renumbered, replaced}
+use Rattle.requests.proofs.EntryLaws.{peers-whole}
 use Rattle.requests.proofs.RecordLaws.{share_written, renumbered-records, header-counts}
-use Rattle.requests.proofs.AroundLaws.{Parts, Around, zeros-join, encode-parts, update_at-middle}
+use Rattle.requests.proofs.AroundLaws.{Parts, parts-with, Around, zeros-join, encode-parts, update_at-middle}
 use Rattle.requests.proofs.ValidityLaws.{group-middle}
 
 -- ---- a part in the middle, replaced
@@ -133,19 +134,7 @@ module _ (L : Limits) (pre : List Entry) (e : Entry) (post : List Entry) (i n m 
   pub new-parts : Parts L pre (with_peers xs e) post i n (m - k + c) f c
   new-parts =
       let peers : m ≡ f + (k + length (peers_of post)) = p.peers in
-      record {
-        long_pre = p.long_pre;
-        long = p.long;
-        long_post = p.long_post;
-        place = p.place;
-        keys = p.keys;
-        peers = omega arith;
-        first_is = p.first_is;
-        count_is = ec;
-        keys_fit = p.keys_fit;
-        peers_fit = fits;
-        small = p.small;
-      }
+      parts-with L pre e post i n m f k p (with_peers xs e) (m - k + c) c p.long ec (omega arith) fits
 
   at_record : length (H ++ R) ≡ 12 + 44 * i
   at_record = front_length L pre n m i p.long_pre p.place
@@ -200,21 +189,22 @@ module _ (L : Limits) (pre : List Entry) (e : Entry) (post : List Entry) (i n m 
       ∙ header-counts L n m n m' ((R ++ (E' ++ Q')) ++ T)
       ∙ sym (encode-parts L pre (with_peers xs e) post i n m' f c new-parts)
 
--- what the calls of a replacement leave
-pub peers-written : (L : Limits) (s msg : List ℕ) (i at c n m f k : ℕ) (t u v w : List ℕ) → Around L s i n m f k → Bytes msg → at + 4 * c ≤ length msg → m - k + c ≤ L.peers
-    → t ≡ replaced s (12 + 44 * L.keys + 4 * f) (4 * k) (4 * c) (4 * (m - f - k)) (part msg at (4 * c))
+-- what the calls of a replacement by the c peers in the bytes b leave
+pub peers-written : (L : Limits) (s b : List ℕ) (i n m f k c : ℕ) (t u v w : List ℕ) → Around L s i n m f k → length b % 4 ≡ 0 → c ≡ length b / 4 → m - k + c ≤ L.peers
+    → t ≡ replaced s (12 + 44 * L.keys + 4 * f) (4 * k) (length b) (4 * (m - f - k)) (words (numbers b 0 (length b / 4)))
     → u ≡ splice t (12 + 44 * i + 40) (be16 f ++ be16 c)
     → v ≡ renumbered u (12 + 44 * i + 44) (n - i - 1) (f + c)
     → w ≡ with_counts v n (m - k + c)
-    → w ≡ encode L (update_at i (with_peers (numbers msg at c)) (entries L s))
-peers-written L s msg i at c n m f k t u v w o bm hm fits et eu ev ew =
-    let xs : List ℕ = numbers msg at c in
-    let r : List ℕ → List ℕ → List ℕ = λ y z. replaced y (12 + 44 * L.keys + 4 * f) (4 * k) (4 * c) (4 * (m - f - k)) z in
+    → w ≡ encode L (update_at i (with_peers (numbers b 0 (length b / 4))) (entries L s))
+peers-written L s b i n m f k c t u v w o whole ec fits et eu ev ew =
+    let xs : List ℕ = numbers b 0 (length b / 4) in
+    let r : List ℕ → ℕ → List ℕ = λ y z. replaced y (12 + 44 * L.keys + 4 * f) (4 * k) z (4 * (m - f - k)) (words xs) in
+    let bytes : length b ≡ 4 * c = sym (peers-whole b whole) ∙ ap (λ (x : ℕ). 4 * x) (sym ec) in
     ew ∙ ap (λ (x : List ℕ). with_counts x n (m - k + c))
     (ev ∙ ap (λ (x : List ℕ). renumbered x (12 + 44 * i + 44) (n - i - 1) (f + c))
     (eu ∙ ap (λ (x : List ℕ). splice x (12 + 44 * i + 40) (be16 f ++ be16 c))
-    (et ∙ ap (r s) (part-words msg bm c at hm) ∙ ap (λ (x : List ℕ). r x (words xs)) o.whole)))
-    ∙ list_replaced L o.pre o.e o.post i n m f k o.parts xs c (sym (length-numbers msg at c)) fits
+    (et ∙ ap (r s) bytes ∙ ap (λ (x : List ℕ). r x (4 * c)) o.whole)))
+    ∙ list_replaced L o.pre o.e o.post i n m f k o.parts xs c (ec ∙ sym (length-numbers b 0 (length b / 4))) fits
     ∙ ap (encode L) (sym (ap (update_at i (with_peers xs)) o.cut ∙ update_at-middle o.pre o.e o.post (with_peers xs) i o.parts.place))
 
 -- ---- as many peers as before
@@ -227,20 +217,7 @@ module _ (L : Limits) (pre : List Entry) (e : Entry) (post : List Entry) (i n m 
       ap (λ (x : ℕ). be32 e.issuer ++ (be32 e.serial ++ (e.kmac ++ (be32 e.start ++ (be32 e.end ++ (be16 f ++ be16 x)))))) (sym p.count_is ∙ ek)
 
   same_parts : Parts L pre (with_peers xs e) post i n m f k
-  same_parts =
-      record {
-        long_pre = p.long_pre;
-        long = p.long;
-        long_post = p.long_post;
-        place = p.place;
-        keys = p.keys;
-        peers = p.peers;
-        first_is = p.first_is;
-        count_is = ek;
-        keys_fit = p.keys_fit;
-        peers_fit = p.peers_fit;
-        small = p.small;
-      }
+  same_parts = parts-with L pre e post i n m f k p (with_peers xs e) m k p.long ek p.peers p.peers_fit
 
   list_overwritten : splice (encode L (pre ++ (e ∷ post))) (12 + 44 * L.keys + 4 * f) (words xs) ≡ encode L (pre ++ (with_peers xs e ∷ post))
   list_overwritten =
@@ -262,12 +239,10 @@ module _ (L : Limits) (pre : List Entry) (e : Entry) (post : List Entry) (i n m 
       ∙ sym (encode-parts L pre (with_peers xs e) post i n m f k same_parts)
 
 -- what the one call leaves
-pub peers_overwritten : (L : Limits) (s msg : List ℕ) (i at c n m f k : ℕ) (t : List ℕ) → Around L s i n m f k → Bytes msg → at + 4 * c ≤ length msg → k ≡ c
-    → t ≡ splice s (12 + 44 * L.keys + 4 * f) (part msg at (4 * c))
-    → t ≡ encode L (update_at i (with_peers (numbers msg at c)) (entries L s))
-peers_overwritten L s msg i at c n m f k t o bm hm ek et =
-    let xs : List ℕ = numbers msg at c in
-    let j : ℕ = 12 + 44 * L.keys + 4 * f in
-    et ∙ ap (splice s j) (part-words msg bm c at hm) ∙ ap (λ (x : List ℕ). splice x j (words xs)) o.whole
-    ∙ list_overwritten L o.pre o.e o.post i n m f k o.parts xs (ek ∙ sym (length-numbers msg at c))
+pub peers_overwritten : (L : Limits) (s xs : List ℕ) (i n m f k : ℕ) (t : List ℕ) → Around L s i n m f k → k ≡ length xs
+    → t ≡ splice s (12 + 44 * L.keys + 4 * f) (words xs)
+    → t ≡ encode L (update_at i (with_peers xs) (entries L s))
+peers_overwritten L s xs i n m f k t o ek et =
+    et ∙ ap (λ (x : List ℕ). splice x (12 + 44 * L.keys + 4 * f) (words xs)) o.whole
+    ∙ list_overwritten L o.pre o.e o.post i n m f k o.parts xs ek
     ∙ ap (encode L) (sym (ap (update_at i (with_peers xs)) o.cut ∙ update_at-middle o.pre o.e o.post (with_peers xs) i o.parts.place))

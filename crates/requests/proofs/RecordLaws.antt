@@ -2,18 +2,17 @@
 -- Assumes nothing.
 use mathlib.Core.Path.{◌≡◌, refl, sym, ap, ◌∙◌}
 use mathlib.Core.List.{List, [], ◌∷◌, ◌++◌, append_assoc}
-use Prim.Native.Nat.{ℕ, suc, ◌+◌, ◌-◌, ◌≤◌, ◌<◌}
+use Prim.Native.Nat.{ℕ, suc, ◌+◌, ◌-◌, ◌*◌, ◌/◌, ◌≤◌, ◌<◌}
 use native.Mathlib.Omega.{arith}
 use lib.ListN.{length, length-append}
-use Rattle.octets.specs.Bytes.{get16, be16, be32, part, splice}
-use Rattle.octets.proofs.PartLaws.{part_length}
+use Rattle.octets.specs.Bytes.{get16, be16, be32, splice}
 use Rattle.octets.proofs.SpliceLaws.{splice-splice, splice_mid}
 use Rattle.octets.proofs.WordLaws.{get16-be16, length-numbers}
 use Rattle.store.specs.Store.{Entry, header, key_record, key_records, peers_of}
 use Rattle.store.specs.Request.{valid_for, with_peers}
 use Rattle.store.specs.declared.Limits.{Limits}
 use Rattle.store.proofs.EncodingLaws.{LongKeys, key_record-length, cut-first, cut-count, at-start, at_first, at_count}
-use Rattle.requests.specs.declared.Addition.{Addition}
+use Rattle.requests.specs.declared.entry.Addition.{Addition}
 use Rattle.requests.specs.Edit.{with_counts, renumbered}
 use Rattle.requests.specs.Worked.{new_entry}
 
@@ -26,25 +25,25 @@ write_two s i v w t u k l h e f = f ∙ ap (λ (x : List ℕ). splice x (i + k) 
 group_record : (i s k b e p n : List ℕ) → (((i ++ s) ++ k) ++ (b ++ e)) ++ (p ++ n) ≡ i ++ (s ++ (k ++ (b ++ (e ++ (p ++ n)))))
 group_record i s k b e p n = simp append_assoc
 
-pub record_written : (s m : List ℕ) (i p : ℕ) (new : Addition) (t u v : List ℕ) → i + 44 ≤ length s → new.kmac + 24 ≤ length m
-    → t ≡ splice s i ((be32 new.issuer ++ be32 new.serial) ++ part m new.kmac 24)
-    → u ≡ splice t (i + 32) (be32 new.start ++ be32 new.end)
-    → v ≡ splice u (i + 40) (be16 p ++ be16 new.count)
-    → v ≡ splice s i (key_record p (new_entry new m))
+pub record_written : (s : List ℕ) (i p : ℕ) (new : Addition) (t u v : List ℕ) → i + 44 ≤ length s → length new.kmac.now ≡ 24
+    → t ≡ splice s i ((be32 new.id.issuer ++ be32 new.id.serial) ++ new.kmac.now)
+    → u ≡ splice t (i + 32) (be32 new.period.start ++ be32 new.period.end)
+    → v ≡ splice u (i + 40) (be16 p ++ be16 (length new.peers.bytes.now / 4))
+    → v ≡ splice s i (key_record p (new_entry new))
 unfolding key_record
-record_written s m i p new t u v h hm et eu ev =
-    let I : List ℕ = be32 new.issuer in
-    let S : List ℕ = be32 new.serial in
-    let K : List ℕ = part m new.kmac 24 in
-    let B : List ℕ = be32 new.start in
-    let E : List ℕ = be32 new.end in
-    let N : List ℕ = be16 new.count in
-    let k : length K ≡ 24 = part_length m new.kmac 24 hm in
+record_written s i p new t u v h k et eu ev =
+    let I : List ℕ = be32 new.id.issuer in
+    let S : List ℕ = be32 new.id.serial in
+    let K : List ℕ = new.kmac.now in
+    let B : List ℕ = be32 new.period.start in
+    let E : List ℕ = be32 new.period.end in
+    let n : ℕ = length new.peers.bytes.now / 4 in
+    let N : List ℕ = be16 n in
     let l1 : length ((I ++ S) ++ K) ≡ 32 = length-append (I ++ S) K ∙ ap (λ (x : ℕ). 8 + x) k in
     let l2 : length (((I ++ S) ++ K) ++ (B ++ E)) ≡ 40 = length-append ((I ++ S) ++ K) (B ++ E) ∙ ap (λ (x : ℕ). x + 8) l1 in
     let w : u ≡ splice s i (((I ++ S) ++ K) ++ (B ++ E)) = write_two s i ((I ++ S) ++ K) (B ++ E) t u 32 l1 (omega arith) et eu in
     write_two s i (((I ++ S) ++ K) ++ (B ++ E)) (be16 p ++ N) u v 40 l2 (omega arith) w ev
-    ∙ ap (splice s i) (group_record I S K B E (be16 p) N ∙ ap (λ (x : ℕ). I ++ (S ++ (K ++ (B ++ (E ++ (be16 p ++ be16 x)))))) (sym (length-numbers m new.peers new.count)))
+    ∙ ap (splice s i) (group_record I S K B E (be16 p) N ∙ ap (λ (x : ℕ). I ++ (S ++ (K ++ (B ++ (E ++ (be16 p ++ be16 x)))))) (sym (length-numbers new.peers.bytes.now 0 n)))
 
 -- ---- fields of a record behind a and before t
 
@@ -104,11 +103,15 @@ module _ (a t : List ℕ) (x : Entry) (r p : ℕ) (ea : length a ≡ r) (long : 
 
 -- ---- the first peer indexes of records, counted anew
 
--- a turn of the loop
+-- a turn of the loop, and its end
 pub renumbered_turn : (s : List ℕ) (i n k q : ℕ) → k < n
-    → renumbered s i (n - k) q ≡ renumbered (splice s (i + 40) (be16 q)) (i + 44) (n - (k + 1)) (q + get16 s (i + 42))
+    → renumbered s (i + 44 * k) (n - k) q ≡ renumbered (splice s (i + 44 * k + 40) (be16 q)) (i + 44 * (k + 1)) (n - (k + 1)) (q + get16 s (i + 44 * k + 42))
 unfolding renumbered
-renumbered_turn s i n k q l = let e : n - k ≡ suc (n - (k + 1)) = omega arith in ap (λ (x : ℕ). renumbered s i x q) e
+renumbered_turn s i n k q l =
+    let e : n - k ≡ suc (n - (k + 1)) = omega arith in
+    let j : i + 44 * k + 44 ≡ i + 44 * (k + 1) = omega arith in
+    ap (λ (x : ℕ). renumbered s (i + 44 * k) x q) e
+    ∙ ap (λ (x : ℕ). renumbered (splice s (i + 44 * k + 40) (be16 q)) x (n - (k + 1)) (q + get16 s (i + 44 * k + 42))) j
 
 pub renumbered-end : (s : List ℕ) (i n k q : ℕ) → n ≤ k → renumbered s i (n - k) q ≡ s
 unfolding renumbered

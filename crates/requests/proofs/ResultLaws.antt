@@ -2,21 +2,26 @@
 -- Assumes nothing.
 use Rattle.octets.specs.Bytes.{Bytes}
 use mathlib.Core.Path.{◌≡◌, sym, ap, ◌∙◌}
-use mathlib.Core.Bool.{Bool, true, false, not}
+use mathlib.Core.Bool.{true, false}
 use mathlib.Core.List.{List, [], ◌∷◌, ◌++◌}
 use Prim.Native.Nat.{ℕ, ◌+◌, ◌-◌, ◌≤◌, ◌<◌}
 use native.Mathlib.Omega.{arith}
+use Rattle.std.proofs.lemmas.Grind.{common_steps}
 use lib.ListN.{length, length-append}
-use lib.Dec.{eqb, leb, ltb}
-use borrow.Author.Tests.{eq-eqb, ne_eqb, le-leb, lt-leb, lt-ltb, le-ltb}
+use borrow.Author.Tests.{lt-ltb}
 use Rattle.store.specs.Store.{Entry, peers_of, encode, entries, key_count, peer_count, all_odd, sound}
-use Rattle.store.specs.Request.{Request, add, delete, validity, entities, Reason, reason, first_reason, is_held, key_place, peers_beside, remove_at, update_at, valid_for, with_peers, result, done}
+use Rattle.store.specs.Request.{Request, add, delete, validity, entities, first_reason, is_held, key_place, peers_beside, remove_at, update_at, valid_for, with_peers, result, done}
 use Rattle.store.specs.declared.Limits.{Limits}
 use Rattle.store.proofs.EncodingLaws.{peers_of-append}
-use Rattle.store.proofs.SoundLaws.{sound-says}
+use Rattle.store.proofs.SoundLaws.{sound_says}
 use Rattle.store.proofs.DecodeLaws.{entries-length, peers-length, encode-entries}
-use Rattle.store.proofs.RequestLaws.{reason-here, reason-next, reason-none, after-done, after_same, Allowed, add_allowed}
-use Rattle.requests.specs.Worked.{Worked}
+use Rattle.store.proofs.RequestLaws.{after-done, after_same, Allowed, add_allowed}
+use Rattle.std.specs.Prelude.{Option, Some, None, MatchOption, IfSome, Result, Ok, Err}
+use Rattle.std.specs.Option.{ok_or, is_some}
+use Rattle.std.specs.Result.{IsErrAnd}
+use Rattle.requests.specs.declared.Failure.{Failure}
+use Rattle.requests.specs.declared.Failure.TheVariants.{NotHeld}
+use Rattle.requests.specs.Worked.{Worked, failure_number, result_number}
 use Rattle.requests.proofs.AroundLaws.{Parts, Around, remove_at-middle}
 
 -- ---- worked, or refused
@@ -32,45 +37,36 @@ module _ (L : Limits) (own : ℕ) (q : Request) (s : List ℕ) where
         store_is = encode-entries L s b h ∙ ap (encode L) (sym (after_same L own (entries L s) q (λ x. z (e ∙ x))));
       }
 
--- ---- whether a key is held: n records, and the search ends at i
+-- ---- a request for a key that is not held, and for the one at place i
 
-module _ (L : Limits) (s : List ℕ) (a b n i : ℕ) (en : n ≡ key_count s) (ei : i ≡ key_place a b (entries L s)) where
-  is-held : i < n → is_held a b (entries L s) ≡ true
-  is-held h = lt-ltb (key_place a b (entries L s)) (length (entries L s)) (omega (arith, entries-length L s))
+module _ (L : Limits) (s : List ℕ) (a b own : ℕ) where
+  module _ (y : Bytes s) (t : sound L s ≡ true) (absent : is_held a b (entries L s) ≡ false) where
+    pub delete-refused : Worked L own (delete a b) s s 1
+    unfolding result first_reason
+    delete-refused = refused L own (delete a b) s 1 y t (grind (arith, common_steps)) (λ z. omega (arith, z))
 
-  not-held : n ≤ i → is_held a b (entries L s) ≡ false
-  not-held h = le-ltb (key_place a b (entries L s)) (length (entries L s)) (omega (arith, entries-length L s))
+    pub validity-refused : (u v : ℕ) → Worked L own (validity a b u v) s s 1
+    unfolding result first_reason
+    validity-refused u v = refused L own (validity a b u v) s 1 y t (grind (arith, common_steps)) (λ z. omega (arith, z))
 
-  module _ (own : ℕ) where
-    pub delete-worked : (t : List ℕ) → i < n → t ≡ encode L (remove_at i (entries L s)) → Worked L own (delete a b) s t 0
-    unfolding result done
-    delete-worked t h e =
-        worked L own (delete a b) s t (reason-next (not (is_held a b (entries L s))) 1 [] (ap not (is-held h)) ∙ reason-none)
-        (e ∙ ap (λ (x : ℕ). encode L (remove_at x (entries L s))) ei)
+    pub entities-refused : (xs : List ℕ) → Worked L own (entities a b xs) s s 1
+    unfolding result first_reason
+    entities-refused xs = refused L own (entities a b xs) s 1 y t (grind (arith, common_steps)) (λ z. omega (arith, z))
 
-    pub delete-refused : Bytes s → sound L s ≡ true → n ≤ i → Worked L own (delete a b) s s 1
-    unfolding result
-    delete-refused y h l =
-        refused L own (delete a b) s 1 y h (sym (reason-here (not (is_held a b (entries L s))) 1 [] (ap not (not-held l)))) (λ z. omega (arith, z))
+  module _ (i : ℕ) (ei : i ≡ key_place a b (entries L s)) (h : i < key_count s) where
+    is-held : is_held a b (entries L s) ≡ true
+    is-held = lt-ltb (key_place a b (entries L s)) (length (entries L s)) (omega (arith, entries-length L s))
 
-    pub validity-worked : (u v : ℕ) (t : List ℕ) → i < n → t ≡ encode L (update_at i (valid_for u v) (entries L s)) → Worked L own (validity a b u v) s t 0
-    unfolding result done
-    validity-worked u v t h e =
-        worked L own (validity a b u v) s t (reason-next (not (is_held a b (entries L s))) 1 [] (ap not (is-held h)) ∙ reason-none)
-        (e ∙ ap (λ (x : ℕ). encode L (update_at x (valid_for u v) (entries L s))) ei)
+    pub delete-worked : (t : List ℕ) → t ≡ encode L (remove_at i (entries L s)) → Worked L own (delete a b) s t 0
+    unfolding result first_reason done
+    delete-worked t e = let held = is-held in worked L own (delete a b) s t (grind (arith, common_steps)) (rw (← ei) e)
 
-    pub validity-refused : (u v : ℕ) → Bytes s → sound L s ≡ true → n ≤ i → Worked L own (validity a b u v) s s 1
-    unfolding result
-    validity-refused u v y h l =
-        refused L own (validity a b u v) s 1 y h (sym (reason-here (not (is_held a b (entries L s))) 1 [] (ap not (not-held l)))) (λ z. omega (arith, z))
-
-    pub entities-refused : (xs : List ℕ) → Bytes s → sound L s ≡ true → n ≤ i → Worked L own (entities a b xs) s s 1
-    unfolding result
-    entities-refused xs y h l =
-        refused L own (entities a b xs) s 1 y h (sym (reason-here (not (is_held a b (entries L s))) 1 _ (ap not (not-held l)))) (λ z. omega (arith, z))
+    pub validity-worked : (u v : ℕ) (t : List ℕ) → t ≡ encode L (update_at i (valid_for u v) (entries L s)) → Worked L own (validity a b u v) s t 0
+    unfolding result first_reason done
+    validity-worked u v t e = let held = is-held in worked L own (validity a b u v) s t (grind (arith, common_steps)) (rw (← ei) e)
 
     -- the peers of the others are those that are not the record's own
-    module _ (m f k : ℕ) (o : Around L s i n m f k) (h : i < n) (xs : List ℕ) (c : ℕ) (ec : c ≡ length xs) where
+    module _ (n m f k : ℕ) (o : Around L s i n m f k) (xs : List ℕ) (c : ℕ) (ec : c ≡ length xs) where
       beside : peers_beside a b (length xs) (entries L s) ≡ m - k + c
       beside =
           let p : Parts L o.pre o.e o.post i n m f k = o.parts in
@@ -81,83 +77,56 @@ module _ (L : Limits) (s : List ℕ) (a b n i : ℕ) (en : n ≡ key_count s) (e
           ∙ ap (λ (x : List ℕ). length x + length xs) (peers_of-append o.pre o.post)
           ∙ omega (arith, length-append (peers_of o.pre) (peers_of o.post))
 
-      over : Bool
-      over = ltb L.peers (peers_beside a b (length xs) (entries L s))
-
-      past-held : result L own (entities a b xs) (entries L s) ≡ first_reason (reason over 255 ∷ [])
-      unfolding result over
-      past-held = reason-next (not (is_held a b (entries L s))) 1 _ (ap not (is-held h))
-
       pub entities-over : Bytes s → sound L s ≡ true → L.peers < m - k + c → Worked L own (entities a b xs) s s 255
-      unfolding over
+      unfolding result first_reason
       entities-over y t l =
-          refused L own (entities a b xs) s 255 y t
-          (sym (past-held ∙ reason-here over 255 [] (lt-ltb L.peers (peers_beside a b (length xs) (entries L s)) (omega (arith, beside))))) (λ z. omega (arith, z))
+          let held = is-held in
+          let peers = beside in
+          refused L own (entities a b xs) s 255 y t (grind (arith, common_steps)) (λ z. omega (arith, z))
 
       pub entities-worked : (t : List ℕ) → m - k + c ≤ L.peers → t ≡ encode L (update_at i (with_peers xs) (entries L s)) → Worked L own (entities a b xs) s t 0
-      unfolding over done
+      unfolding result first_reason done
       entities-worked t l e =
-          worked L own (entities a b xs) s t
-          (past-held ∙ reason-next over 255 [] (le-ltb L.peers (peers_beside a b (length xs) (entries L s)) (omega (arith, beside))) ∙ reason-none)
-          (e ∙ ap (λ (x : ℕ). encode L (update_at x (with_peers xs) (entries L s))) ei)
+          let held = is-held in
+          let peers = beside in
+          worked L own (entities a b xs) s t (grind (arith, common_steps)) (rw (← ei) e)
+
+-- whether it is held is whether the search finds it
+pub found-held : (L : Limits) (s : List ℕ) (a b : ℕ) (r : Option ℕ) → IfSome r (λ (i : ℕ). i < key_count s)
+    → MatchOption r (is_held a b (entries L s) ≡ false) (λ (i : ℕ). i ≡ key_place a b (entries L s)) → is_held a b (entries L s) ≡ is_some r
+found-held L s a b None h w = w
+found-held L s a b (Some i) h w = is-held L s a b 0 i w h
 
 -- ---- an addition, reason by reason
 
 module _ (L : Limits) (own : ℕ) (s : List ℕ) (recipient : ℕ) (e : Entry) where
-  abbrev es : List Entry
-  es = entries L s
-
-  abbrev full : Reason
-  full = reason (leb L.keys (length es)) 2
-
-  abbrev crowded : Reason
-  crowded = reason (ltb L.peers (length (peers_of es) + length e.peers)) 255
-
-  abbrev held : Reason
-  held = reason (is_held e.issuer e.serial es) 3
-
-  pub add_not_ours : (recipient ≡ own → ⊥) → 5 ≡ result L own (add recipient e) es
-  unfolding result
-  add_not_ours h = sym (reason-here (not (eqb recipient own)) 5 _ (ap not (ne_eqb recipient own h)))
+  pub add_not_ours : (recipient ≡ own → ⊥) → 5 ≡ result L own (add recipient e) (entries L s)
+  unfolding result first_reason
+  add_not_ours h = grind (arith, common_steps)
 
   module _ (ours : recipient ≡ own) where
-    past_recipient : result L own (add recipient e) es ≡ first_reason (reason (not (all_odd e.kmac)) 4 ∷ held ∷ full ∷ crowded ∷ [])
-    unfolding result
-    past_recipient = reason-next (not (eqb recipient own)) 5 _ (ap not (eq-eqb recipient own ours))
+    pub add_corrupted : all_odd e.kmac ≡ false → 4 ≡ result L own (add recipient e) (entries L s)
+    unfolding result first_reason
+    add_corrupted h = grind (arith, common_steps)
 
-    pub add_corrupted : all_odd e.kmac ≡ false → 4 ≡ result L own (add recipient e) es
-    add_corrupted h = sym (past_recipient ∙ reason-here (not (all_odd e.kmac)) 4 _ (ap not h))
+    module _ (odd : all_odd e.kmac ≡ true) where
+      pub add-held : is_held e.issuer e.serial (entries L s) ≡ true → 3 ≡ result L own (add recipient e) (entries L s)
+      unfolding result first_reason
+      add-held h = grind (arith, common_steps)
 
-    module _ (odd : all_odd e.kmac ≡ true) (n i : ℕ) (en : n ≡ key_count s) (ei : i ≡ key_place e.issuer e.serial es) where
-      past-parity : result L own (add recipient e) es ≡ first_reason (held ∷ full ∷ crowded ∷ [])
-      past-parity = past_recipient ∙ reason-next (not (all_odd e.kmac)) 4 _ (ap not odd)
-
-      pub add-held : i < n → 3 ≡ result L own (add recipient e) es
-      add-held h = sym (past-parity ∙ reason-here (is_held e.issuer e.serial es) 3 _ (is-held L s e.issuer e.serial n i en ei h))
-
-      module _ (new : n ≤ i) where
-        past-key : result L own (add recipient e) es ≡ first_reason (full ∷ crowded ∷ [])
-        past-key = past-parity ∙ reason-next (is_held e.issuer e.serial es) 3 _ (not-held L s e.issuer e.serial n i en ei new)
-
-        pub add-full : L.keys ≤ n → 2 ≡ result L own (add recipient e) es
-        add-full h = sym (past-key ∙ reason-here (leb L.keys (length es)) 2 _ (le-leb L.keys (length es) (omega (arith, entries-length L s))))
+      module _ (new : is_held e.issuer e.serial (entries L s) ≡ false) (n : ℕ) (en : n ≡ key_count s) where
+        pub add-full : L.keys ≤ n → 2 ≡ result L own (add recipient e) (entries L s)
+        unfolding result first_reason
+        add-full h = let keys = entries-length L s in grind (arith, common_steps)
 
         module _ (room : n < L.keys) (t : sound L s ≡ true) (m k : ℕ) (em : m ≡ peer_count s) (ek : k ≡ length e.peers) where
-          past-full : result L own (add recipient e) es ≡ first_reason (crowded ∷ [])
-          past-full = past-key ∙ reason-next (leb L.keys (length es)) 2 _ (lt-leb L.keys (length es) (omega (arith, entries-length L s)))
+          pub add-crowded : L.peers < m + k → 255 ≡ result L own (add recipient e) (entries L s)
+          unfolding result first_reason
+          add-crowded h = let keys = entries-length L s in let peers = peers-length L s (sound_says L s t) in grind (arith, common_steps)
 
-          pub add-crowded : L.peers < m + k → 255 ≡ result L own (add recipient e) es
-          add-crowded h =
-              sym (past-full
-              ∙ reason-here (ltb L.peers (length (peers_of es) + length e.peers)) 255 []
-              (lt-ltb L.peers (length (peers_of es) + length e.peers) (omega (arith, peers-length L s (sound-says L s t)))))
-
-          pub add_possible : m + k ≤ L.peers → 0 ≡ result L own (add recipient e) es
-          add_possible h =
-              sym (past-full
-              ∙ reason-next (ltb L.peers (length (peers_of es) + length e.peers)) 255 []
-              (le-ltb L.peers (length (peers_of es) + length e.peers) (omega (arith, peers-length L s (sound-says L s t))))
-              ∙ reason-none)
+          pub add_possible : m + k ≤ L.peers → 0 ≡ result L own (add recipient e) (entries L s)
+          unfolding result first_reason
+          add_possible h = let keys = entries-length L s in let peers = peers-length L s (sound_says L s t) in grind (arith, common_steps)
 
 -- what an addition with RESULT 0 has room for, in the store's own counts
 pub add-room : (L : Limits) (own : ℕ) (s : List ℕ) (recipient : ℕ) (e : Entry) (k : ℕ) → sound L s ≡ true → k ≡ length e.peers
@@ -166,9 +135,20 @@ add-room L own s recipient e k t ek z =
     let a : Allowed L (entries L s) e = add_allowed L own (entries L s) recipient e z in
     let keys : length (entries L s) < L.keys = a.keys_left in
     let peers : length (peers_of (entries L s)) + length e.peers ≤ L.peers = a.peers_left in
-    (omega (arith, entries-length L s), omega (arith, peers-length L s (sound-says L s t)))
+    (omega (arith, entries-length L s), omega (arith, peers-length L s (sound_says L s t)))
 
 pub add-worked : (L : Limits) (own : ℕ) (s : List ℕ) (recipient : ℕ) (e : Entry) (t : List ℕ) → result L own (add recipient e) (entries L s) ≡ 0
     → t ≡ encode L (entries L s ++ (e ∷ [])) → Worked L own (add recipient e) s t 0
 unfolding done
 add-worked L own s recipient e t z h = worked L own (add recipient e) s t z h
+
+-- ---- the answer where the search finds no key
+
+pub not-held-number : (place : Option ℕ) (f : Failure) (r : Result Unit Failure) → place ≡ None → Err f ≡ ok_or place NotHeld → IsErrAnd r (λ (e : Failure). e ≡ f) → result_number r ≡ 1
+not-held-number place f (Ok u) z e w = absurd w
+not-held-number place f (Err y) z e w = let h : f ≡ NotHeld = cc (rw z at e) in ap failure_number (w ∙ h)
+
+-- ---- a failure has a RESULT other than 0
+
+pub is-failure : (f : Failure) → failure_number f ≡ 0 → ⊥
+is-failure f e = grind (arith, common_steps)

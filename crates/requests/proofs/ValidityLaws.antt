@@ -12,7 +12,7 @@ use Rattle.store.specs.Request.{update_at, valid_for}
 use Rattle.store.specs.declared.Limits.{Limits}
 use Rattle.store.proofs.EncodingLaws.{front_length}
 use Rattle.requests.proofs.RecordLaws.{period_written}
-use Rattle.requests.proofs.AroundLaws.{Parts, Around, around, encode-parts, update_at-middle}
+use Rattle.requests.proofs.AroundLaws.{Parts, parts-with, Around, around, encode-parts, update_at-middle}
 
 pub group-middle : (h r e q t : List ℕ) → h ++ ((r ++ (e ++ q)) ++ t) ≡ (h ++ r) ++ (e ++ (q ++ t))
 group-middle h r e q t = simp append_assoc
@@ -20,20 +20,7 @@ group-middle h r e q t = simp append_assoc
 module _ (L : Limits) (pre : List Entry) (e : Entry) (post : List Entry) (i n m f k : ℕ) (p : Parts L pre e post i n m f k) where
   -- the same parts, with another period
   valid_parts : (a b : ℕ) → Parts L pre (valid_for a b e) post i n m f k
-  valid_parts a b =
-      record {
-        long_pre = p.long_pre;
-        long = p.long;
-        long_post = p.long_post;
-        place = p.place;
-        keys = p.keys;
-        peers = p.peers;
-        first_is = p.first_is;
-        count_is = p.count_is;
-        keys_fit = p.keys_fit;
-        peers_fit = p.peers_fit;
-        small = p.small;
-      }
+  valid_parts a b = parts-with L pre e post i n m f k p (valid_for a b e) m k p.long p.count_is p.peers p.peers_fit
 
   period_replaced : (a b : ℕ) → splice (encode L (pre ++ (e ∷ post))) (12 + 44 * i + 32) (be32 a ++ be32 b) ≡ encode L (pre ++ (valid_for a b e ∷ post))
   period_replaced a b =

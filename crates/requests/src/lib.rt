@@ -3,18 +3,19 @@
 #![tactic(auto)]
 
 mod append;
+pub mod entry;
 mod held;
 mod peers;
 mod record;
 mod removal;
 
-ghost use Rattle.std.specs.Prelude.{◌≡◌, true, ℕ, ◌+◌, ◌*◌, ◌≤◌, ◌<◌, length};
-ghost use Rattle.octets.specs.Words.{numbers};
+ghost use Rattle.std.specs.Prelude.{◌≡◌, true, ℕ};
 ghost use Rattle.store.specs.Store.{entries, sound};
 ghost use Rattle.store.specs.Request.{delete, validity, entities, result as result_of};
-ghost use Rattle.requests.specs.Worked.{Worked, addition};
+ghost use Rattle.requests.specs.Worked.{Worked, failure_number, result_number, peer_numbers, addition};
 
 use append::append;
+use entry::{Addition, KeyId, PeerList, Period};
 use held::key_place;
 use peers::set_peers;
 use record::{counts_at, put_period};
@@ -22,19 +23,6 @@ use removal::remove_at;
 use store::field::number_at;
 use store::sound::all_odd;
 use store::{KEYS_AT, Limits, RECORD};
-
-// A key to be added: its fields, and where in the message its KMAC and its peers stand.
-#[derive(Clone, Copy)]
-pub struct Addition {
-    pub issuer: u32,
-    pub serial: u32,
-    pub recipient: u32,
-    pub kmac: usize,
-    pub peers: usize,
-    pub count: usize,
-    pub start: u32,
-    pub end: u32,
-}
 
 // The counts of a store, and the first peer index and peer count of one of its records.
 #[derive(Clone, Copy)]
@@ -45,117 +33,106 @@ pub struct Counts {
     pub count: usize,
 }
 
-const DONE: u8 = 0;
+// Why a request is not done, with the number that its RESULT has (000, 5.3.15.1).
+#[derive(Clone, Copy, Debug, PartialEq, Eq)]
+pub enum Failure {
+    NotHeld = 1,
+    NoRoom = 2,
+    HeldAlready = 3,
+    Corrupted = 4,
+    NotRecipient = 5,
+    TooManyPeers = 255,
+}
 
-const NOT_HELD: u8 = 1;
+impl From<Failure> for u8 {
+    ghost from_gives = { λ f n. n ≡ failure_number f };
 
-const NO_ROOM: u8 = 2;
+    fn from(failure: Failure) -> u8 {
+        failure as u8
+    }
+}
 
-const HELD_ALREADY: u8 = 3;
+// The RESULT of a request: 0 where it is done.
+pub fn result_number(done: Result<(), Failure>) -> u8
+    ensures { result ≡ result_number done }
+{
+    match done {
+        Ok(()) => 0,
+        Err(failure) => u8::from(failure),
+    }
+}
 
-const CORRUPTED: u8 = 4;
-
-const NOT_RECIPIENT: u8 = 5;
-
-const TOO_MANY_PEERS: u8 = 255;
+// The bytes and their edition stay two parameters, and each function asks that they are sound: that they are so again afterwards follows only from what
+// the fields of a message fit (WorkLaws of `command`), and a struct that is always sound would ask each function here for that.
 
 // Deletes the key with this issuer and serial.
-pub fn delete(s: &mut [u8], lim: Limits, issuer: u32, serial: u32) -> u8
+#[tactic(auto, using(store::proofs::SearchLaws::frame))]
+pub fn delete(s: &mut [u8], lim: Limits, id: KeyId) -> Result<(), Failure>
     requires { sound lim s.old ≡ true }
-    ensures { (own : ℕ) → Worked lim own (delete issuer serial) s.old s.new result }
+    ensures { (own : ℕ) → Worked lim own (delete id.issuer id.serial) s.old s.new (result_number result) }
 {
-    let n = number_at(s, 2);
-    let i = key_place(s, lim, issuer, serial);
-    if i < n {
-        remove_at(s, lim, i);
-        return DONE;
-    }
-    NOT_HELD
+    let i = key_place(s, id).ok_or(Failure::NotHeld)?;
+    remove_at(s, lim, i);
+    Ok(())
 }
 
 // Replaces start and end of the key with this issuer and serial.
-pub fn set_validity(s: &mut [u8], lim: Limits, issuer: u32, serial: u32, start: u32, end: u32) -> u8
+#[tactic(auto, using(store::proofs::SearchLaws::frame, store::proofs::SearchLaws::room))]
+pub fn set_validity(s: &mut [u8], lim: Limits, id: KeyId, period: Period) -> Result<(), Failure>
     requires { sound lim s.old ≡ true }
-    ensures { (own : ℕ) → Worked lim own (validity issuer serial start «end») s.old s.new result }
+    ensures { (own : ℕ) → Worked lim own (validity id.issuer id.serial period.start period.end) s.old s.new (result_number result) }
 {
-    let n = number_at(s, 2);
-    let i = key_place(s, lim, issuer, serial);
-    if i < n {
-        put_period(s, KEYS_AT + RECORD * i + 32, start, end);
-        return DONE;
-    }
-    NOT_HELD
+    let i = key_place(s, id).ok_or(Failure::NotHeld)?;
+    put_period(s, KEYS_AT + RECORD * i + 32, period);
+    Ok(())
 }
 
-// Replaces the peers of the key with this issuer and serial by the count peers that stand in m from index at.
-pub fn set_entities(
-    s: &mut [u8],
-    lim: Limits,
-    issuer: u32,
-    serial: u32,
-    m: &[u8],
-    at: usize,
-    count: usize,
-) -> u8
-    requires s_value { sound lim s.old ≡ true }
-    requires count_in_bounds { at + 4 * count ≤ length m.now }
-    ensures { (own : ℕ) → Worked lim own (entities issuer serial (numbers m.now at count)) s.old s.new result }
+// Replaces the peers of the key with this issuer and serial.
+#[tactic(auto, using(store::proofs::SearchLaws::frame, store::proofs::SearchLaws::room))]
+pub fn set_entities(s: &mut [u8], lim: Limits, id: KeyId, peers: PeerList) -> Result<(), Failure>
+    requires { sound lim s.old ≡ true }
+    ensures { (own : ℕ) → Worked lim own (entities id.issuer id.serial (peer_numbers peers.entry)) s.old s.new (result_number result) }
 {
-    let most = lim.peers;
-    let i = key_place(s, lim, issuer, serial);
-    if number_at(s, 2) <= i {
-        return NOT_HELD;
-    }
+    let i = key_place(s, id).ok_or(Failure::NotHeld)?;
     let old = counts_at(s, i);
-    let held = old.peers;
-    let k = old.count;
-    if most < held - k + count {
-        return TOO_MANY_PEERS;
+    if lim.peers < old.peers - old.count + peers.count() {
+        return Err(Failure::TooManyPeers);
     }
-    set_peers(s, lim, i, m, at, count);
-    DONE
+    set_peers(s, lim, i, peers);
+    Ok(())
 }
 
-// The RESULT of an addition.
-fn add_result(s: &[u8], lim: Limits, own: u32, new: Addition, m: &[u8]) -> u8
-    requires s_value { sound lim s.now ≡ true }
-    requires kmac_in_bounds { (new.kmac + 24 ≤ length m.now) × (new.peers + 4 * new.count ≤ length m.now) }
-    ensures { result ≡ result_of lim own (addition new m.now) (entries lim s.now) }
+// Whether an addition can be done; own is the own identity.
+#[tactic(auto, using(store::proofs::SearchLaws::frame))]
+fn add_result(s: &[u8], lim: Limits, own: u32, new: Addition) -> Result<(), Failure>
+    requires { sound lim s.now ≡ true }
+    ensures { result_number result ≡ result_of lim own (addition new.entry) (entries lim s.now) }
 {
-    let keys = lim.keys;
-    let peers = lim.peers;
-    let recipient = new.recipient;
-    let kmac = new.kmac;
-    let count = new.count;
     let n = number_at(s, 2);
-    if recipient != own {
-        return NOT_RECIPIENT;
+    if new.recipient != own {
+        return Err(Failure::NotRecipient);
     }
-    if !all_odd(m, kmac) {
-        return CORRUPTED;
+    if !all_odd(new.kmac, 0) {
+        return Err(Failure::Corrupted);
     }
-    if key_place(s, lim, new.issuer, new.serial) < n {
-        return HELD_ALREADY;
+    if key_place(s, new.id).is_some() {
+        return Err(Failure::HeldAlready);
     }
-    if keys <= n {
-        return NO_ROOM;
+    if lim.keys <= n {
+        return Err(Failure::NoRoom);
     }
-    if peers < number_at(s, 6) + count {
-        return TOO_MANY_PEERS;
+    if lim.peers < number_at(s, 6) + new.peers.count() {
+        return Err(Failure::TooManyPeers);
     }
-    DONE
+    Ok(())
 }
 
 // Adds a key; own is the own identity.
-pub fn add(s: &mut [u8], lim: Limits, own: u32, new: Addition, m: &[u8]) -> u8
-    requires s_value { sound lim s.old ≡ true }
-    requires kmac_in_bounds { (new.kmac + 24 ≤ length m.now) × (new.peers + 4 * new.count ≤ length m.now) }
-    ensures { Worked lim own (addition new m.now) s.old s.new result }
+pub fn add(s: &mut [u8], lim: Limits, own: u32, new: Addition) -> Result<(), Failure>
+    requires { sound lim s.old ≡ true }
+    ensures { Worked lim own (addition new.entry) s.old s.new (result_number result) }
 {
-    let result = add_result(s, lim, own, new, m);
-    if result != DONE {
-        return result;
-    }
-    append(s, lim, new, m);
-    DONE
+    add_result(s, lim, own, new)?;
+    append(s, lim, new);
+    Ok(())
 }

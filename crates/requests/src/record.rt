@@ -1,12 +1,13 @@
 // A key record's fields and the header's counts, read and written.
 ghost use Rattle.std.specs.Prelude.{◌≡◌, ◌++◌, ◌+◌, ◌*◌, ◌≤◌, ◌<◌, length};
-ghost use Rattle.octets.specs.Bytes.{be16, be32, part, splice};
+ghost use Rattle.octets.specs.Bytes.{be16, be32, splice};
 ghost use Rattle.store.specs.Layout.{record_at};
 ghost use Rattle.store.specs.Store.{key_record};
 ghost use Rattle.requests.specs.Edit.{Counted, with_counts, renumbered};
 ghost use Rattle.requests.specs.Worked.{new_entry};
 
-use super::{Addition, Counts};
+use super::Counts;
+use super::entry::{Addition, KeyId, Period};
 use octets::{copy, put32};
 use store::field::{number_at, put_number};
 use store::{KEYS_AT, KMAC, RECORD};
@@ -26,6 +27,7 @@ pub fn counts_at(s: &[u8], i: usize) -> Counts
 }
 
 // Writes the two counts of the header.
+#[tactic(auto, unfolding(crate::specs::Edit::with_counts))]
 pub fn put_counts(s: &mut [u8], n: usize, m: usize)
     requires { 12 ≤ length s.old }
     ensures { s.new ≡ with_counts s.old n m }
@@ -35,22 +37,22 @@ pub fn put_counts(s: &mut [u8], n: usize, m: usize)
 }
 
 // Writes issuer, serial and KMAC at index i.
-fn put_key(s: &mut [u8], i: usize, issuer: u32, serial: u32, m: &[u8], kmac: usize)
-    requires { (i + 32 ≤ length s.old) × (kmac + 24 ≤ length m.now) }
-    ensures { s.new ≡ splice s.old i ((be32 issuer ++ be32 serial) ++ part m.now kmac 24) }
+fn put_key(s: &mut [u8], i: usize, id: KeyId, kmac: &[u8])
+    requires { (i + 32 ≤ length s.old) × (length kmac.now ≡ 24) }
+    ensures { s.new ≡ splice s.old i ((be32 id.issuer ++ be32 id.serial) ++ kmac.now) }
 {
-    put32(s, i, issuer);
-    put32(s, i + 4, serial);
-    copy(s, i + 8, m, kmac, KMAC);
+    put32(s, i, id.issuer);
+    put32(s, i + 4, id.serial);
+    copy(s, i + 8, kmac, 0, KMAC);
 }
 
 // Writes start and end at index i.
-pub fn put_period(s: &mut [u8], i: usize, start: u32, end: u32)
+pub fn put_period(s: &mut [u8], i: usize, period: Period)
     requires { i + 8 ≤ length s.old }
-    ensures { s.new ≡ splice s.old i (be32 start ++ be32 «end») }
+    ensures { s.new ≡ splice s.old i (be32 period.start ++ be32 period.end) }
 {
-    put32(s, i, start);
-    put32(s, i + 4, end);
+    put32(s, i, period.start);
+    put32(s, i + 4, period.end);
 }
 
 // Writes first peer index and peer count at index i.
@@ -63,13 +65,13 @@ pub fn put_share(s: &mut [u8], i: usize, first: usize, count: usize)
 }
 
 // Writes the record of a new key at index i; its first peer has the index p.
-pub fn put_record(s: &mut [u8], i: usize, p: usize, new: Addition, m: &[u8])
-    requires { (i + 44 ≤ length s.old) × (new.kmac + 24 ≤ length m.now) }
-    ensures { s.new ≡ splice s.old i (key_record p (new_entry new m.now)) }
+pub fn put_record(s: &mut [u8], i: usize, p: usize, new: Addition)
+    requires { i + 44 ≤ length s.old }
+    ensures { s.new ≡ splice s.old i (key_record p (new_entry new.entry)) }
 {
-    put_key(s, i, new.issuer, new.serial, m, new.kmac);
-    put_period(s, i + 32, new.start, new.end);
-    put_share(s, i + 40, p, new.count);
+    put_key(s, i, new.id, new.kmac);
+    put_period(s, i + 32, new.period);
+    put_share(s, i + 40, p, new.peers.count());
 }
 
 // Counts the first peer indexes of the n records from index i anew, from p.
@@ -77,14 +79,11 @@ pub fn renumber(s: &mut [u8], i: usize, n: usize, p: usize)
     requires { (i + 44 * n ≤ length s.old) × (n < 65536) × (p < 1048576) }
     ensures { s.new ≡ renumbered s.old i n p }
 {
-    let mut a = i;
-    let mut q = p;
-    let mut k = 0;
-    while k < n {
-        let count = number_at(s, a + 42);
-        put_number(s, a + 40, q);
-        q += count;
-        a += RECORD;
-        k += 1;
+    let mut first = p;
+    for k in 0..n {
+        let at = i + RECORD * k;
+        let count = number_at(s, at + 42);
+        put_number(s, at + 40, first);
+        first += count;
     }
 }

@@ -7,13 +7,12 @@ use Prim.Native.Nat.{ℕ}
 use lib.ListN.{length}
 use lib.Dec.{eqb, leb}
 use borrow.Author.Tests.{eqb-true, eqb-false}
+use Rattle.std.specs.Prelude.{Option, Some}
 use Rattle.refusal.specs.House.{gives}
 use Rattle.store.specs.Layout.{total, edition1, edition2, edition_of, edition_in}
 use Rattle.store.specs.Store.{entries}
 use Rattle.store.specs.declared.Limits.{Limits}
-use Rattle.store.specs.declared.Edition.{Edition}
-use Rattle.store.specs.declared.Edition.TheVariants.{Known}
-use Rattle.store.proofs.SearchLaws.{edition_of-says}
+use Rattle.store.proofs.SearchLaws.{edition_says}
 use Rattle.convert.specs.Convert.{has_room, answered, converted}
 use Rattle.convert.proofs.DoneLaws.{done-says, new}
 use Rattle.convert.proofs.RefusedLaws.{of_source}
@@ -23,13 +22,13 @@ use Rattle.runs.specs.Conversion.{AlikeConverted, ConversionShowsNoKey}
 use Rattle.runs.proofs.EntryLaws.{length-alike, peers-alike}
 use Rattle.runs.proofs.TwinLaws.{Twins, alike-twins, encode-twins, twins-alike, twins-told}
 
-module _ (F T : Limits) (of-F : edition_of (total F) ≡ Known F) (of_T : edition_of (total T) ≡ Known T) (s s' to : List ℕ) (a : AlikeStores s s') where
+module _ (F T : Limits) (of-F : edition_of (total F) ≡ Some F) (of_T : edition_of (total T) ≡ Some T) (s s' to : List ℕ) (a : AlikeStores s s') where
   module _ (long : length s ≡ total F) where
-    known : edition_of (length s) ≡ Known F
+    known : edition_of (length s) ≡ Some F
     known = ap edition_of long ∙ of-F
 
     twins : Twins F (tags (held_in s) (held_in s')) s s'
-    twins = alike-twins F s s' a known (ap (λ (E : Edition). sound_in E s) (sym known) ∙ a.sound)
+    twins = alike-twins F s s' a known (ap (λ (E : Option Limits). sound_in E s) (sym known) ∙ a.sound)
 
     same-room : has_room T (entries F s) ≡ has_room T (entries F s')
     unfolding has_room
@@ -54,11 +53,11 @@ module _ (F T : Limits) (of-F : edition_of (total F) ≡ Known F) (of_T : editio
 
     made-twins : Twins T (tags (held_in s) (held_in s')) (converted F T s to) (converted F T s' to)
     made-twins =
-        let b = (edition_of-says (total T) T of_T).0 in
+        let b = (edition_says (total T) T of_T).0 in
         rw ((done-says F T s to e).made, (done-says F T s' to e').made)
         (encode-twins T b of_T (new F T s to b a.bytes e) (new F T s' to b a.bytes' e') (twins (done-says F T s to e).from_long).alike)
 
-alike-converted : (F T : Limits) → edition_of (total F) ≡ Known F → edition_of (total T) ≡ Known T → AlikeConverted F T
+alike-converted : (F T : Limits) → edition_of (total F) ≡ Some F → edition_of (total T) ≡ Some T → AlikeConverted F T
 alike-converted F T f t =
     record {
       same_answer = same_answer F T f t;

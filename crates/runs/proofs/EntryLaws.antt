@@ -9,7 +9,7 @@ use lib.Dec.{leb}
 use borrow.Author.Tests.{not-true, not-false}
 use Rattle.octets.specs.Bytes.{same}
 use Rattle.octets.proofs.BoolLaws.{clash, and_left, and_right, same_refl, same_true}
-use Rattle.store.specs.declared.Choice.{Choice}
+use Rattle.store.specs.Search.{Choice}
 use Rattle.store.specs.Store.{Entry, peers_of}
 use Rattle.store.specs.Search.{pick_number, place_where, one_more, latest, serves, chosen}
 use Rattle.store.specs.Request.{has_key, key_place, remove_at, update_at}

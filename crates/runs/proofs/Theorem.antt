@@ -5,11 +5,10 @@ use mathlib.Core.Bool.{Bool, true, false, not, ◌&&◌}
 use mathlib.Core.List.{List, ◌∷◌, map}
 use Prim.Native.Nat.{ℕ}
 use lib.ListN.{length}
+use Rattle.std.specs.Prelude.{Option, Some, None}
 use Rattle.octets.specs.Bytes.{Bytes}
 use Rattle.octets.proofs.BoolLaws.{clash}
 use Rattle.store.specs.declared.Limits.{Limits}
-use Rattle.store.specs.declared.Edition.{Edition}
-use Rattle.store.specs.declared.Edition.TheVariants.{Known, Unknown}
 use Rattle.store.specs.Layout.{total, edition1, edition2, edition_in, edition_of}
 use Rattle.store.specs.Store.{sound}
 use Rattle.store.specs.Search.{Finding, find, key}
@@ -81,9 +80,9 @@ run-same (alike-search {cs = cs} {cs' = cs'} peer t r) L ts w w' q v =
     }
 
 -- the edition of a sound store
-sound-edition : (E : Edition) (s : List ℕ) → sound_in E s ≡ true → (L : Limits) × (E ≡ Known L) × (sound L s ≡ true)
-sound-edition Unknown s h = clash false h refl
-sound-edition (Known L) s h = (L, refl, h)
+sound-edition : (E : Option Limits) (s : List ℕ) → sound_in E s ≡ true → (L : Limits) × (E ≡ Some L) × (sound L s ≡ true)
+sound-edition None s h = clash false h refl
+sound-edition (Some L) s h = (L, refl, h)
 
 pub secrecy : Secrecy
 secrecy =
@@ -105,23 +104,23 @@ secrecy =
 -- ---- one run
 
 -- a run beside itself, from a store that is sound in an edition
-beside-itself : (L : Limits) → edition_of (total L) ≡ Known L → (cs : List Call) (w : World) → Bytes w.store → sound L w.store ≡ true → AlikeCalls cs cs
+beside-itself : (L : Limits) → edition_of (total L) ≡ Some L → (cs : List Call) (w : World) → Bytes w.store → sound L w.store ≡ true → AlikeCalls cs cs
     → SameRun L cs cs (tags (held_in w.store) (held_in w.store)) w w
 beside-itself L k cs w b h c =
     let s = w.store in
-    let d : edition_of (length s) ≡ Known L = ap edition_of (accepted-says-edition.of_sound L s h).2 ∙ k in
-    let i : is_sound s ≡ true = ap (λ (E : Edition). sound_in E s) d ∙ h in
+    let d : edition_of (length s) ≡ Some L = ap edition_of (accepted-says-edition.of_sound L s h).2 ∙ k in
+    let i : is_sound s ≡ true = ap (λ (E : Option Limits). sound_in E s) d ∙ h in
     let a : AlikeStores s s = record { bytes = b; bytes' = b; sound = i; sound' = i; differ = record { same_length = refl; same_byte = λ j p. refl } } in
     run-same c L _ w w refl (alike-twins L s s a d h)
 
-stays-sound : (L : Limits) → edition_of (total L) ≡ Known L → StaysSound L
+stays-sound : (L : Limits) → edition_of (total L) ≡ Some L → StaysSound L
 stays-sound L k cs w b h c = (beside-itself L k cs w b h c).twins.sound_is
 
 pub runs-keep-sound : RunsKeepSound
 unfolding edition_of edition_in
 runs-keep-sound = record { in_edition_1 = stays-sound edition1 refl; in_edition_2 = stays-sound edition2 refl }
 
-never-says-unsound : (L : Limits) → edition_of (total L) ≡ Known L → NeverSaysUnsound L
+never-says-unsound : (L : Limits) → edition_of (total L) ≡ Some L → NeverSaysUnsound L
 never-says-unsound L k cs w b h c = (beside-itself L k cs w b h c).never_unsound
 
 pub never-six : NeverSix

@@ -5,20 +5,19 @@ use mathlib.Core.Bool.{true}
 use mathlib.Core.List.{List}
 use Prim.Native.Nat.{ℕ, zero, suc, ◌+◌, ◌-◌, min}
 use lib.ListN.{length}
+use Rattle.std.specs.Prelude.{Option, Some}
 use Rattle.octets.specs.Bytes.{Bytes, part}
 use Rattle.octets.proofs.PartLaws.{part-long}
 use Rattle.store.specs.declared.Limits.{Limits}
-use Rattle.store.specs.declared.Edition.{Edition}
-use Rattle.store.specs.declared.Edition.TheVariants.{Known}
 use Rattle.store.specs.Layout.{record_at, total, Bounded, edition_of}
 use Rattle.store.specs.Store.{Entry, encode, entries, sound}
 use Rattle.store.specs.WellFormed.{WellFormed}
 use Rattle.store.specs.Search.{Finding, found, unfound, find, find_in, key, key_of}
 use Rattle.store.proofs.DecodeLaws.{encode-entries}
 use Rattle.store.proofs.EncodeLaws.{entries-encode, encode-sound, encode-length}
-use Rattle.store.proofs.SoundLaws.{sound-says, sound_bounded}
+use Rattle.store.proofs.SoundLaws.{sound_says, sound_bounded}
 use Rattle.store.proofs.WellFormedLaws.{sound-well_formed}
-use Rattle.store.proofs.SearchLaws.{edition_of-says}
+use Rattle.store.proofs.SearchLaws.{edition_says}
 use Rattle.runs.specs.Alike.{DifferAt, in_store_key, AlikeStores, sound_in, held_in}
 use Rattle.runs.specs.Tally.{Tag, tags}
 use Rattle.runs.specs.Secrecy.{Told, none_unlike}
@@ -27,8 +26,8 @@ use Rattle.runs.proofs.BytesLaws.{encode-bytes}
 use Rattle.runs.proofs.StoreLaws.{entries-alike, encode-differ}
 
 pub record Twins (L : Limits) (ts : List Tag) (s s' : List ℕ) : Type 0 where
-  pub edition : edition_of (length s) ≡ Known L
-  pub edition' : edition_of (length s') ≡ Known L
+  pub edition : edition_of (length s) ≡ Some L
+  pub edition' : edition_of (length s') ≡ Some L
   pub bytes : Bytes s
   pub bytes' : Bytes s'
   pub sound_is : sound L s ≡ true
@@ -36,7 +35,7 @@ pub record Twins (L : Limits) (ts : List Tag) (s s' : List ℕ) : Type 0 where
   pub alike : AlikeEntries ts (entries L s) (entries L s')
 
 -- the encodings of two well-formed lists that are alike
-pub encode-twins : (L : Limits) {ts : List Tag} {es es' : List Entry} → Bounded L → edition_of (total L) ≡ Known L → WellFormed L es → WellFormed L es' → AlikeEntries ts es es'
+pub encode-twins : (L : Limits) {ts : List Tag} {es es' : List Entry} → Bounded L → edition_of (total L) ≡ Some L → WellFormed L es → WellFormed L es' → AlikeEntries ts es es'
     → Twins L ts (encode L es) (encode L es')
 encode-twins L {es = es} {es' = fs} b p g g' a =
     record {
@@ -50,25 +49,25 @@ encode-twins L {es = es} {es' = fs} b p g g' a =
     }
 
 -- alike stores, at the start
-pub alike-twins : (L : Limits) (s s' : List ℕ) → AlikeStores s s' → edition_of (length s) ≡ Known L → sound L s ≡ true → Twins L (tags (held_in s) (held_in s')) s s'
+pub alike-twins : (L : Limits) (s s' : List ℕ) → AlikeStores s s' → edition_of (length s) ≡ Some L → sound L s ≡ true → Twins L (tags (held_in s) (held_in s')) s s'
 alike-twins L s s' a d w =
-    let d' : edition_of (length s') ≡ Known L = ap edition_of (sym a.differ.same_length) ∙ d in
+    let d' : edition_of (length s') ≡ Some L = ap edition_of (sym a.differ.same_length) ∙ d in
     record {
       edition = d;
       edition' = d';
       bytes = a.bytes;
       bytes' = a.bytes';
       sound_is = w;
-      sound_is' = ap (λ (E : Edition). sound_in E s') (sym d') ∙ a.sound';
-      alike = rw (d, d') (entries-alike L s s' (sound-says L s w).keys_fit a.differ);
+      sound_is' = ap (λ (E : Option Limits). sound_in E s') (sym d') ∙ a.sound';
+      alike = rw (d, d') (entries-alike L s s' (sound_says L s w).keys_fit a.differ);
     }
 
 module _ (L : Limits) {ts : List Tag} {s s' : List ℕ} (v : Twins L ts s s') where
   pub twins_bounded : Bounded L
   twins_bounded = sound_bounded L s v.sound_is v.bytes
 
-  pub total-edition : edition_of (total L) ≡ Known L
-  total-edition = ap edition_of (sym (edition_of-says (length s) L v.edition).1) ∙ v.edition
+  pub total-edition : edition_of (total L) ≡ Some L
+  total-edition = ap edition_of (sym (edition_says (length s) L v.edition).1) ∙ v.edition
 
   pub well_formed : WellFormed L (entries L s)
   well_formed = sound-well_formed L s v.bytes v.sound_is
@@ -94,8 +93,8 @@ module _ (L : Limits) {ts : List Tag} {s s' : List ℕ} (v : Twins L ts s s') wh
       record {
         bytes = v.bytes;
         bytes' = v.bytes';
-        sound = ap (λ (E : Edition). sound_in E s) v.edition ∙ v.sound_is;
-        sound' = ap (λ (E : Edition). sound_in E s') v.edition' ∙ v.sound_is';
+        sound = ap (λ (E : Option Limits). sound_in E s) v.edition ∙ v.sound_is;
+        sound' = ap (λ (E : Option Limits). sound_in E s') v.edition' ∙ v.sound_is';
         differ = twins-differ;
       }
 

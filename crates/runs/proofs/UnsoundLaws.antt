@@ -9,9 +9,9 @@ use lib.Dec.{eqb, leb}
 use lib.ListN.{length, get_or, take}
 use lib.Seq.{get_or-take}
 use borrow.Author.Tests.{eqb-true, ne_eqb, leb-true}
+use Rattle.std.specs.Prelude.{Some}
 use Rattle.octets.proofs.BoolLaws.{clash, and_left, and_right}
 use Rattle.store.specs.declared.Limits.{Limits}
-use Rattle.store.specs.declared.Edition.TheVariants.{Known}
 use Rattle.store.specs.Layout.{edition_of}
 use Rattle.store.specs.Store.{sound}
 use Rattle.store.specs.Search.{Finding, found, unfound, find}
@@ -43,9 +43,9 @@ refused-few e m s out n =
     (λ q. let j : 5 ≡ n = cc in omega arith) (λ q. absurd (apart opened (refused n) refl q)) (λ L t response then v q. absurd (apart (reply 23) (refused n) refl q))
     (λ L t task v q. absurd (obeyed-apart _ m s out L task (refused n) refl refl q))
 
-module _ (L : Limits) (s : List ℕ) (d : edition_of (length s) ≡ Known L) (h : sound L s ≡ true) where
+module _ (L : Limits) (s : List ℕ) (d : edition_of (length s) ≡ Some L) (h : sound L s ≡ true) where
   -- the store is unsound in no edition of its length
-  not-unsound : {A : Type 0} (M : Limits) → edition_of (length s) ≡ Known M → sound M s ≡ false → A
+  not-unsound : {A : Type 0} (M : Limits) → edition_of (length s) ≡ Some M → sound M s ≡ false → A
   not-unsound M k u = let j : M ≡ L = cc in clash (sound L s) h (ap (λ (N : Limits). sound N s) (sym j) ∙ u)
 
   pub message-never : (e : Session) (m out : List ℕ)

@@ -10,6 +10,7 @@ use lib.ListN.{length, get_or, replicate}
 use lib.Dec.{ltb, eqb}
 use lib.Count.{ones}
 use borrow.Author.Tests.{eqb-true, ltb-true}
+use Rattle.std.specs.Prelude.{Ok}
 use Rattle.octets.specs.Bytes.{be16, be32, part, splice, all_zero, same, all_below}
 use Rattle.octets.specs.Words.{numbers, words}
 use Rattle.octets.proofs.BoolLaws.{clash, and_left, and_right}
@@ -166,7 +167,7 @@ unfolding receive receive_in edition_of edition_in in_state verdict first_failed
 answers = (refl, refl)
 
 abbrev handed : ℕ → List Handed
-handed k = by-message (Reply 24) (outcome k).output ∷ []
+handed k = by-message (Ok (Reply 24)) (outcome k).output ∷ []
 
 abbrev left : ℕ → World
 left k = record { session = (outcome k).session; store = (outcome k).store }

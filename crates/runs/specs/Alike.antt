@@ -1,10 +1,9 @@
 -- Stores and calls that are alike: they differ at most inside KMAC fields (demand 3). A name with ' is of the second run.
 -- Assumes nothing.
-use Rattle.std.specs.Prelude.{◌≡◌, List, [], ◌∷◌, Bool, true, false, ◌&&◌, ◌||◌, ℕ, zero, suc, ◌+◌, ◌%◌, length, get_or, leb, ltb}
+use Rattle.std.specs.Prelude.{◌≡◌, List, [], ◌∷◌, Bool, true, false, ◌&&◌, ◌||◌, ℕ, zero, suc, ◌+◌, ◌%◌, length, get_or, leb, ltb, Option, Some, None}
 use Rattle.std.specs.Int.Count.{ones}
 use Rattle.octets.specs.Bytes.{Bytes}
-use Rattle.store.specs.declared.Edition.{Edition}
-use Rattle.store.specs.declared.Edition.TheVariants.{Known, Unknown}
+use Rattle.store.specs.declared.Limits.{Limits}
 use Rattle.store.specs.Layout.{edition_of, record_at}
 use Rattle.store.specs.Store.{Entry, entries, sound, key_count}
 use Rattle.message.specs.declared.Command.TheVariants.{Adds}
@@ -58,16 +57,16 @@ pub data AlikeCalls : List Call → List Call → Type 0 where
   alike-search : {cs cs' : List Call} → (peer moment : ℕ) → AlikeCalls cs cs' → AlikeCalls (searches peer moment ∷ cs) (searches peer moment ∷ cs')
 
 -- sound: of the length of an edition, and sound in it
-abbrev pub sound_in : Edition → List ℕ → Bool
-sound_in Unknown s = false
-sound_in (Known L) s = sound L s
+abbrev pub sound_in : Option Limits → List ℕ → Bool
+sound_in None s = false
+sound_in (Some L) s = sound L s
 
 abbrev pub is_sound : List ℕ → Bool
 is_sound s = sound_in (edition_of (length s)) s
 
-abbrev pub entries_in : Edition → List ℕ → List Entry
-entries_in Unknown s = []
-entries_in (Known L) s = entries L s
+abbrev pub entries_in : Option Limits → List ℕ → List Entry
+entries_in None s = []
+entries_in (Some L) s = entries L s
 
 -- the entries that a store holds
 abbrev pub held_in : List ℕ → List Entry

@@ -1,14 +1,14 @@
 -- Demand 3 of the code itself: two chained runs of calls that meet the contracts of the public functions. And what one such run does to the store.
 -- Assumes nothing.
-use Rattle.std.specs.Prelude.{◌≡◌, List, [], ◌∷◌, map, true, ℕ, length}
+use Rattle.std.specs.Prelude.{◌≡◌, List, [], ◌∷◌, map, true, ℕ, length, Result}
 use Rattle.octets.specs.Bytes.{Bytes}
+use Rattle.refusal.specs.declared.Refusal.{Refusal}
 use Rattle.store.specs.declared.Limits.{Limits}
 use Rattle.store.specs.declared.Found.{Found}
 use Rattle.store.specs.Layout.{edition1, edition2}
 use Rattle.store.specs.Store.{sound}
 use Rattle.store.specs.Search.{found_as, find, key}
 use Rattle.session.specs.declared.Session.{Session}
-use Rattle.session.specs.declared.Begun.{Begun}
 use Rattle.session.specs.declared.Received.{Received}
 use Rattle.session.specs.Sessions.{begun_as, Begins}
 use Rattle.session.specs.Rules.{received_as, receive, Does}
@@ -20,9 +20,9 @@ use Rattle.runs.specs.Sound.{none_says_unsound}
 
 -- what a call hands back: its answer and, of a begin or a message, the output buffer afterwards; of a search, the part
 pub data Handed : Type 0 where
-  by-begin : (answer : Begun) → (output : List ℕ) → Handed
-  by-message : (answer : Received) → (output : List ℕ) → Handed
-  by-search : (answer : Found) → (part : List ℕ) → Handed
+  by-begin : (answer : Result (Session × ℕ) Refusal) → (output : List ℕ) → Handed
+  by-message : (answer : Result Received Refusal) → (output : List ℕ) → Handed
+  by-search : (answer : Result Found Refusal) → (part : List ℕ) → Handed
 
 -- ---- a run of the code
 
@@ -31,13 +31,13 @@ pub data Handed : Type 0 where
 pub data CodeRun : List Call → World → List Handed → World → Type 0 where
   code-ends : {w : World} → CodeRun [] w [] w
   -- `Session::begin`
-  code-begin : {cs : List Call} {hs : List Handed} {w v : World} {own peer start : ℕ} {out after : List ℕ} {r : Begun} → Begins own peer start out after r
+  code-begin : {cs : List Call} {hs : List Handed} {w v : World} {own peer start : ℕ} {out after : List ℕ} {r : Result (Session × ℕ) Refusal} → Begins own peer start out after r
       → CodeRun cs (record { session = session_of (begun_as r) w.session; store = w.store }) hs v → CodeRun (starts own peer start out ∷ cs) w (by-begin r after ∷ hs) v
   -- `Session::receive`
-  code-message : {cs : List Call} {hs : List Handed} {w v : World} {m s out after : List ℕ} {e : Session} {r : Received} → Does (receive w.session m w.store out) r e s after
+  code-message : {cs : List Call} {hs : List Handed} {w v : World} {m s out after : List ℕ} {e : Session} {r : Result Received Refusal} → Does (receive w.session m w.store out) r e s after
       → CodeRun cs (record { session = e; store = s }) hs v → CodeRun (brings m out ∷ cs) w (by-message r after ∷ hs) v
   -- `store::find` and `store::key`
-  code-search : {cs : List Call} {hs : List Handed} {w v : World} {peer t : ℕ} {part : List ℕ} {r : Found} → found_as r ≡ find w.store peer t → part ≡ key w.store peer t
+  code-search : {cs : List Call} {hs : List Handed} {w v : World} {peer t : ℕ} {part : List ℕ} {r : Result Found Refusal} → found_as r ≡ find w.store peer t → part ≡ key w.store peer t
       → CodeRun cs w hs v → CodeRun (searches peer t ∷ cs) w (by-search r part ∷ hs) v
 
 -- what is seen of what a call hands back
@@ -51,9 +51,9 @@ seen_by (by-search r part) = searched (found_as r) (length part)
 -- the same answers and output buffers; of the parts that searches hand back, the same lengths
 pub data SameHanded : List Handed → List Handed → Type 0 where
   same_none : SameHanded [] []
-  same-begin : {hs hs' : List Handed} → (r : Begun) → (out : List ℕ) → SameHanded hs hs' → SameHanded (by-begin r out ∷ hs) (by-begin r out ∷ hs')
-  same-message : {hs hs' : List Handed} → (r : Received) → (out : List ℕ) → SameHanded hs hs' → SameHanded (by-message r out ∷ hs) (by-message r out ∷ hs')
-  same-search : {hs hs' : List Handed} → (r : Found) → (part part' : List ℕ) → length part ≡ length part' → SameHanded hs hs'
+  same-begin : {hs hs' : List Handed} → (r : Result (Session × ℕ) Refusal) → (out : List ℕ) → SameHanded hs hs' → SameHanded (by-begin r out ∷ hs) (by-begin r out ∷ hs')
+  same-message : {hs hs' : List Handed} → (r : Result Received Refusal) → (out : List ℕ) → SameHanded hs hs' → SameHanded (by-message r out ∷ hs) (by-message r out ∷ hs')
+  same-search : {hs hs' : List Handed} → (r : Result Found Refusal) → (part part' : List ℕ) → length part ≡ length part' → SameHanded hs hs'
       → SameHanded (by-search r part ∷ hs) (by-search r part' ∷ hs')
 
 -- the reply stands at the front of the output buffer

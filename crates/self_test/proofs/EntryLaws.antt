@@ -51,8 +51,10 @@ joined-worked k g {s} hk hg hs hq hr =
     let m : 28 - 4 * k ≡ 32 - (4 * k + 4) = omega arith in
     recast hr (ap (permute e) (hq.same ∙ ap (permute p) (ap (λ (n : ℕ). bits 32 (s * 2 ^ n % 2 ^ 64)) m ∙ at_place 32 k (omega arith) (omega arith) hs)))
 
-pub joined_same : (t : List ℕ) (k g : ℕ) {r : ℕ} → t ≡ joined → k < 8 → g < 64 → Holds 48 r (permute e (moved k g)) → r ≡ get_or t (64 * k + g) 0
-joined_same t k g ht hk hg h = one_word 48 h (joined_at k g hk hg) ∙ ap (λ (l : List ℕ). get_or l (64 * k + g) 0) (sym ht)
+pub joined_same : (t : List ℕ) (i : ℕ) {r : ℕ} → t ≡ joined → i < 512 → Holds 48 r (permute e (moved (i / 64) (i % 64))) → get_or t i 0 ≡ r
+joined_same t i ht hi h =
+    let whole : i ≡ 64 * (i / 64) + i % 64 = omega arith in
+    ap (λ (l : List ℕ). get_or l i 0) ht ∙ ap (λ (n : ℕ). get_or joined n 0) whole ∙ sym (one_word 48 h (joined_at (i / 64) (i % 64) (omega arith) (omega arith)))
 
 -- ---- permuted choice 2 by groups
 
@@ -61,5 +63,7 @@ group-worked i v hi hv h =
     let m : 52 - 4 * i ≡ 56 - (4 * i + 4) = omega arith in
     recast h (ap (permute pc2) (ap (λ (n : ℕ). bits 56 (v * 2 ^ n % 2 ^ 64)) m ∙ at_place 56 i (omega arith) (omega arith) (whole 4 v hv)))
 
-pub group-same : (t : List ℕ) (i v : ℕ) {r : ℕ} → t ≡ pc2_groups → i < 14 → v < 16 → Holds 48 r (permute pc2 (placed 56 i (bits 4 v))) → r ≡ get_or t (16 * i + v) 0
-group-same t i v ht hi hv h = one_word 48 h (pc2-at i v hi hv) ∙ ap (λ (l : List ℕ). get_or l (16 * i + v) 0) (sym ht)
+pub group_same : (t : List ℕ) (i : ℕ) {r : ℕ} → t ≡ pc2_groups → i < 224 → Holds 48 r (permute pc2 (placed 56 (i / 16) (bits 4 (i % 16)))) → get_or t i 0 ≡ r
+group_same t i ht hi h =
+    let whole : i ≡ 16 * (i / 16) + i % 16 = omega arith in
+    ap (λ (l : List ℕ). get_or l i 0) ht ∙ ap (λ (n : ℕ). get_or pc2_groups n 0) whole ∙ sym (one_word 48 h (pc2-at (i / 16) (i % 16) (omega arith) (omega arith)))

@@ -8,9 +8,13 @@ use native.Mathlib.Omega.{arith}
 use native.Mathlib.Numerals.{add-one}
 use lib.Bits.{bit_xor}
 use lib.Count.{ones}
-use lib.ListN.{length, take, drop, get_or, replicate, length-map, length-append}
+use lib.ListN.{length, take, drop, length-append}
 use lib.Dec.{eqb}
 use borrow.Author.Tests.{eq-eqb}
+use Rattle.std.specs.List.{list_all, zip}
+use Rattle.octets.proofs.BoolLaws.{and_both}
+use mathlib.Core.Bool.{◌&&◌}
+use mathlib.Core.List.{◌∷◌}
 use Rattle.octets.specs.Bytes.{part, number, bytes}
 use Rattle.octets.proofs.NumberLaws.{length-bytes}
 use Rattle.octets.proofs.PartLaws.{part_mid}
@@ -19,11 +23,10 @@ use Rattle.des.specs.Des.{encipher_bits, decipher_bits}
 use Rattle.des.proofs.BitLaws.{length-bits, xor_bits_lem}
 use Rattle.des.proofs.BlockLaws.{small-bits}
 use Rattle.des.proofs.ByteLaws.{bytes_bits, bits_of_bytes_lem}
-use Rattle.des.proofs.MapLaws.{get_d_map}
 use Rattle.des.proofs.WordLaws.{whole, recast}
 use Rattle.authentication.specs.Mac.{block, chain, finish, cbc_mac, mac_string, mac}
 use Rattle.authentication.specs.Keys.{left, right, triple, ks1, ks2, ks3, odd, session_keys, derived}
-use Rattle.refusal.specs.House.{gives, asks, unless_refused}
+use Rattle.refusal.specs.House.{gives, asks}
 use Rattle.authentication.proofs.Examples.{key}
 use Rattle.authentication.proofs.PairLaws.{length-string}
 use Rattle.authentication.proofs.StringLaws.{block-number}
@@ -129,9 +132,6 @@ pub formulas : (k1 k2 k3 x y a b c : ℕ) (r : List ℕ) → bits 64 a ≡ tripl
 formulas k1 k2 k3 x y a b c r ea eb ec er =
     record { long = ap length er ∙ three-long a b c; by = λ kmac ra rb ks el eh. keys-worked kmac ra rb k1 k2 k3 x y a b c ks el eh ea eb ec ∙ ap (map odd) (sym er) }
 
-pub keys-long : (key plain : List ℕ) → key ≡ map odd plain → length plain ≡ 24 → length key ≡ 24
-keys-long key plain e h = ap length e ∙ length-map plain odd ∙ h
-
 -- the halves of two random numbers, each the bytes of a word
 lefts-right : (a b l : ℕ) → bits 64 l ≡ take 32 (bits 64 a) ++ take 32 (bits 64 b) → left (bytes 8 a) ++ left (bytes 8 b) ≡ bits 64 l
 unfolding left
@@ -141,20 +141,24 @@ rights-right : (a b l : ℕ) → bits 64 l ≡ drop 32 (bits 64 a) ++ drop 32 (b
 unfolding right
 rights-right a b l e = ap₂ (λ (s t : List ℕ). drop 32 s ++ drop 32 t) (bits-bytes a) (bits-bytes b) ∙ sym e
 
--- what the call gives for a KMAC and random numbers that are the bytes of words
-pub keys-given : (kmac ra rb key : List ℕ) (k1 k2 k3 a b x y : ℕ) (r : List ℕ) → kmac ≡ bytes 8 k1 ++ (bytes 8 k2 ++ bytes 8 k3) → ra ≡ bytes_of_bits 8 (bits 64 a) → rb ≡ bytes_of_bits 8 (bits 64 b)
-    → key ≡ unless_refused (derived kmac) (session_keys kmac ra rb) (replicate 24 0) → bits 64 x ≡ take 32 (bits 64 a) ++ take 32 (bits 64 b)
-    → bits 64 y ≡ drop 32 (bits 64 a) ++ drop 32 (bits 64 b) → Formulas k1 k2 k3 x y r → key ≡ map odd r
+-- the call makes the keys of a KMAC that is the bytes of words
+pub keys-made : (kmac : List ℕ) (k1 k2 k3 : ℕ) → kmac ≡ bytes 8 k1 ++ (bytes 8 k2 ++ bytes 8 k3) → derived kmac ≡ gives 0
 unfolding derived
+keys-made kmac k1 k2 k3 e = ap (λ (t : Bool). asks t 13 (gives 0)) (eq-eqb (length kmac) 24 (ap length e ∙ three-long k1 k2 k3))
+
+-- which they are, where the random numbers are the bytes of words too
+pub keys-given : (kmac ra rb key : List ℕ) (k1 k2 k3 a b x y : ℕ) (r : List ℕ) → kmac ≡ bytes 8 k1 ++ (bytes 8 k2 ++ bytes 8 k3) → ra ≡ bytes_of_bits 8 (bits 64 a) → rb ≡ bytes_of_bits 8 (bits 64 b)
+    → key ≡ session_keys kmac ra rb → bits 64 x ≡ take 32 (bits 64 a) ++ take 32 (bits 64 b)
+    → bits 64 y ≡ drop 32 (bits 64 a) ++ drop 32 (bits 64 b) → Formulas k1 k2 k3 x y r → key ≡ map odd r
 keys-given kmac ra rb key k1 k2 k3 a b x y r ek ea eb e el er f =
     let whole = bytes 8 k1 ++ (bytes 8 k2 ++ bytes 8 k3) in
-    let long : eqb (length kmac) 24 ≡ true = eq-eqb (length kmac) 24 (ap length ek ∙ three-long k1 k2 k3) in
-    e ∙ ap (λ (t : Bool). unless_refused (asks t 13 (gives 0)) (session_keys kmac ra rb) (replicate 24 0)) long
-    ∙ ap (λ (k : List ℕ). session_keys k ra rb) ek ∙ ap₂ (λ (s t : List ℕ). session_keys whole s t) (ea ∙ bytes_bits 8 a) (eb ∙ bytes_bits 8 b)
+    e ∙ ap (λ (k : List ℕ). session_keys k ra rb) ek ∙ ap₂ (λ (s t : List ℕ). session_keys whole s t) (ea ∙ bytes_bits 8 a) (eb ∙ bytes_bits 8 b)
     ∙ f.by whole (bytes 8 a) (bytes 8 b) (three-words k1 k2 k3) (lefts-right a b x el) (rights-right a b y er)
 
--- what is compared of a byte
-pub parity-at : (key plain : List ℕ) (i : ℕ) → key ≡ map odd plain → i < length plain → (get_or key i 0 / 2 ≡ get_or plain i 0 / 2) × (ones (get_or key i 0) % 2 ≡ 1)
-parity-at key plain i e h =
-    let b : get_or key i 0 ≡ odd (get_or plain i 0) = ap (λ (l : List ℕ). get_or l i 0) e ∙ get_d_map odd plain i h in
-    (ap (λ (n : ℕ). n / 2) b ∙ odd-high (get_or plain i 0), ap (λ (n : ℕ). ones n % 2) b ∙ odd-ones (get_or plain i 0))
+-- what is compared of each byte
+pub parity-all : (key plain : List ℕ) → key ≡ map odd plain → list_all (λ x. eqb (x.0 / 2) (x.1 / 2) && eqb (ones x.0 % 2) 1) (zip key plain) ≡ true
+parity-all key plain e = ap (λ (k : List ℕ). list_all (λ x. eqb (x.0 / 2) (x.1 / 2) && eqb (ones x.0 % 2) 1) (zip k plain)) e ∙ each plain
+  where
+    each : (p : List ℕ) → list_all (λ x. eqb (x.0 / 2) (x.1 / 2) && eqb (ones x.0 % 2) 1) (zip (map odd p) p) ≡ true
+    each [] = refl
+    each (b ∷ p) = and_both _ _ (and_both _ _ (eq-eqb (odd b / 2) (b / 2) (odd-high b)) (eq-eqb (ones (odd b) % 2) 1 (odd-ones b))) (each p)

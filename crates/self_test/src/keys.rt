@@ -1,27 +1,19 @@
 // Session keys against the three formulas by the printed tables.
-ghost use Rattle.std.specs.Prelude.{◌≡◌, true, map, length};
-ghost use Rattle.authentication.specs.Keys.{odd};
+ghost use Rattle.std.specs.Prelude.{◌≡◌, ◌==◌, ◌&&◌, ◌/◌, ◌%◌, true};
+ghost use Rattle.std.specs.List.{list_all, zip};
+ghost use Rattle.std.specs.Int.Count.{ones};
 ghost use Rattle.self_test.specs.Plain.{Formulas};
 
 use crate::words::{encipher, triple};
 use authentication::keys::{join, lefts, rights};
 
-// Whether 24 bytes are those of the formulas but for the parity bit, and have an odd number of ones.
+// Whether bytes are those of the formulas but for the parity bit, and have an odd number of ones.
 fn same_but_parity(key: &[u8], plain: &[u8]) -> bool
-    requires { (length plain.now ≡ 24) × (key.now ≡ map odd plain.now) }
-    ensures { result ≡ true }
+    ensures { result ≡ list_all (λ x. x.0 / 2 == x.1 / 2 && ones x.0 % 2 == 1) (zip key.now plain.now) }
 {
-    let mut i = 0;
-    while i < 24 {
-        if key[i] >> 1 != plain[i] >> 1 {
-            return false;
-        }
-        if u8::count_ones(key[i]) % 2 != 1 {
-            return false;
-        }
-        i += 1;
-    }
-    true
+    key.iter()
+        .zip(plain)
+        .all(|(k, p)| *k >> 1 == *p >> 1 && k.count_ones() % 2 == 1)
 }
 
 // The three formulas, x being the left halves and y the right, without parity.
@@ -39,11 +31,11 @@ fn formulas(k1: u64, k2: u64, k3: u64, x: u64, y: u64) -> [u8; 24]
 fn keys_right_of(k1: u64, k2: u64, k3: u64, a: u64, b: u64) -> bool
     ensures { result ≡ true }
 {
-    let kmac = join(k1, k2, k3);
-    let made = authentication::session_keys(&kmac, des::store(a), des::store(b));
-    let key = made.key;
     let plain = formulas(k1, k2, k3, lefts(a, b), rights(a, b));
-    same_but_parity(&key, &plain)
+    match authentication::session_keys(&join(k1, k2, k3), des::store(a), des::store(b)) {
+        Ok(key) => same_but_parity(&key, &plain),
+        Err(_) => false,
+    }
 }
 
 // The session keys of sixteen KMACs that DES makes: three of them look up every entry of both tables.
@@ -51,8 +43,7 @@ pub fn keys_right() -> bool
     ensures { result ≡ true }
 {
     let mut x: u64 = 0x0123_4567_89ab_cdef;
-    let mut n: usize = 0;
-    while n < 16 {
+    for _ in 0..16 {
         let k1 = encipher(x, x);
         let k2 = encipher(x, k1);
         let k3 = encipher(x, k2);
@@ -60,7 +51,6 @@ pub fn keys_right() -> bool
             return false;
         }
         x = k3;
-        n += 1;
     }
     true
 }

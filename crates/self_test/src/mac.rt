@@ -1,6 +1,5 @@
 // The MAC: Annex B of SUBSET-037-2, and a message's MAC against the printed tables.
 ghost use Rattle.std.specs.Prelude.{◌≡◌, true, ◌+◌, ◌/◌, length};
-ghost use Rattle.fast_des.specs.Joined.{joined, pc2_groups};
 ghost use Rattle.des.specs.Bits.{bits};
 ghost use Rattle.authentication.specs.Mac.{chain, mac_string};
 ghost use Rattle.self_test.specs.Plain.{Chains, Macs};
@@ -24,47 +23,33 @@ const K2: u64 = 0x9d54_6497_bf46_cd7a;
 const K3: u64 = 0xf8ec_ae25_b99b_02f8;
 
 // Three blocks chained from zero under k1, then k2 and k3, by the joined rounds.
-fn fast_cbc_mac(
-    k1: u64,
-    k2: u64,
-    k3: u64,
-    x: u64,
-    y: u64,
-    z: u64,
-    groups: &[u64],
-    table: &[u64],
-) -> u64
-    requires { (groups.now ≡ pc2_groups) × (table.now ≡ joined) }
+fn fast_cbc_mac(k1: u64, k2: u64, k3: u64, x: u64, y: u64, z: u64) -> u64
     ensures { Chains k1 k2 k3 x y z result }
 {
-    let h = fast_encipher(k1, 0 ^ x, groups, table);
-    let i = fast_encipher(k1, h ^ y, groups, table);
-    let j = fast_encipher(k1, i ^ z, groups, table);
-    let d = fast_decipher(k2, j, groups, table);
-    fast_encipher(k3, d, groups, table)
+    let h = fast_encipher(k1, 0 ^ x);
+    let i = fast_encipher(k1, h ^ y);
+    let j = fast_encipher(k1, i ^ z);
+    let d = fast_decipher(k2, j);
+    fast_encipher(k3, d)
 }
 
 // Annex B by the joined rounds: the string 00 to 14 and three zero bytes.
-pub fn annex_b(groups: &[u64], table: &[u64]) -> bool
-    requires { (groups.now ≡ pc2_groups) × (table.now ≡ joined) }
+pub fn annex_b() -> bool
     ensures { result ≡ true }
 {
     let x = 0x0001_0203_0405_0607;
     let y = 0x0809_0a0b_0c0d_0e0f;
     let z = 0x1011_1213_1400_0000;
-    fast_cbc_mac(B1, B2, B3, x, y, z, groups, table) == 0x361d_431e_d396_c175
+    fast_cbc_mac(B1, B2, B3, x, y, z) == 0x361d_431e_d396_c175
 }
 
 // The chain over the blocks of a message's string, by the printed tables.
 fn plain_chain(k1: u64, destination: [u8; 3], m: &[u8]) -> u64
     ensures { bits 64 result ≡ chain (bits 64 k1) (mac_string destination m.now) ((length m.now + 12) / 8) }
 {
-    let n = blocks(m);
     let mut h: u64 = 0;
-    let mut k = 0;
-    while k < n {
+    for k in 0..blocks(m) {
         h = encipher(k1, h ^ word_by_bytes(k, destination, m));
-        k += 1;
     }
     h
 }
@@ -79,10 +64,8 @@ fn plain_mac(k1: u64, k2: u64, k3: u64, destination: [u8; 3], m: &[u8]) -> u64
 
 // Byte i is i modulo 251, so that no two blocks are alike.
 fn fill(m: &mut [u8]) {
-    let mut i = 0;
-    while i < m.len() {
-        m[i] = (i % 251) as u8;
-        i += 1;
+    for (i, byte) in m.iter_mut().enumerate() {
+        *byte = (i % 251) as u8;
     }
 }
 

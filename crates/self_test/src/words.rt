@@ -2,7 +2,6 @@
 ghost use Rattle.std.specs.Prelude.{◌≡◌};
 ghost use Rattle.des.specs.Bits.{bits};
 ghost use Rattle.des.specs.Des.{encipher_bits, decipher_bits};
-ghost use Rattle.fast_des.specs.Joined.{joined, pc2_groups};
 ghost use Rattle.authentication.specs.Keys.{triple as tripled};
 
 pub fn encipher(key: u64, x: u64) -> u64
@@ -17,23 +16,22 @@ pub fn decipher(key: u64, x: u64) -> u64
     des::decipher_word(des::schedule(key), x)
 }
 
-pub fn fast_encipher(key: u64, x: u64, groups: &[u64], table: &[u64]) -> u64
-    requires { (groups.now ≡ pc2_groups) × (table.now ≡ joined) }
+pub fn fast_encipher(key: u64, x: u64) -> u64
     ensures { bits 64 result ≡ encipher_bits (bits 64 key) (bits 64 x) }
 {
-    let keys = fast_des::schedule_by(key, groups);
-    fast_des::leave(fast_des::encipher_halves(fast_des::enter(x), keys, table))
+    let keys = fast_des::schedule(key);
+    fast_des::leave(fast_des::encipher_halves(fast_des::enter(x), keys))
 }
 
-pub fn fast_decipher(key: u64, x: u64, groups: &[u64], table: &[u64]) -> u64
-    requires { (groups.now ≡ pc2_groups) × (table.now ≡ joined) }
+pub fn fast_decipher(key: u64, x: u64) -> u64
     ensures { bits 64 result ≡ decipher_bits (bits 64 key) (bits 64 x) }
 {
-    let keys = fast_des::schedule_by(key, groups);
-    fast_des::leave(fast_des::decipher_halves(fast_des::enter(x), keys, table))
+    let keys = fast_des::schedule(key);
+    fast_des::leave(fast_des::decipher_halves(fast_des::enter(x), keys))
 }
 
 // DES (K3, DES⁻¹ (K2, DES (K1, x))).
+// Three keys, since the formulas take them in two orders.
 pub fn triple(k1: u64, k2: u64, k3: u64, x: u64) -> u64
     ensures { bits 64 result ≡ tripled (bits 64 k1) (bits 64 k2) (bits 64 k3) (bits 64 x) }
 {

@@ -1,5 +1,4 @@
 pub mod TestLaws
-pub mod HeaderLaws
 pub mod SessionLaws
 pub mod OutcomeLaws
 pub mod RuleLaws

@@ -1,12 +1,10 @@
 -- What a verdict tells of its message, and the ways that a message can take.
 -- Assumes nothing.
-use Rattle.std.proofs.Common.{◌≡◌, ℕ, suc, ◌≤◌, Bool, true, false, cond, not, ◌&&◌, ◌||◌, eqb, leb, List, [], ◌∷◌, length, get_or, sym, refl, ap, ◌∙◌, subst, arith, eqb-true, leb-true}
+use Rattle.std.proofs.Common.{◌≡◌, ℕ, suc, ◌≤◌, Bool, true, false, cond, not, ◌&&◌, ◌||◌, eqb, leb, List, [], ◌∷◌, length, get_or, sym, refl, ap, ◌∙◌, subst, arith, eqb-true, leb-true, Option, Some, None}
 use borrow.Author.Tests.{eqb-false, not-true}
 use Rattle.octets.specs.Bytes.{splice}
 use Rattle.octets.proofs.BoolLaws.{and_left, and_right, clash}
 use Rattle.store.specs.declared.Limits.{Limits}
-use Rattle.store.specs.declared.Edition.{Edition}
-use Rattle.store.specs.declared.Edition.TheVariants.{Known, Unknown}
 use Rattle.store.specs.Layout.{edition_of}
 use Rattle.store.specs.Store.{sound}
 use Rattle.message.specs.declared.Task.{Task}
@@ -182,7 +180,7 @@ module _ (P : Outcome → Type 0) (e : Session) (m s out : List ℕ)
   by-verdict L t (failed response then) q = at-failed L t response then q
   by-verdict L t (passed task) q = at-passed L t task q
 
-  by_state : (L : Limits) → edition_of (length s) ≡ Known L → 1032 ≤ length out → (t : State) → state_of e.state ≡ t → P (in_state t L e m s out)
+  by_state : (L : Limits) → edition_of (length s) ≡ Some L → 1032 ≤ length out → (t : State) → state_of e.state ≡ t → P (in_state t L e m s out)
   unfolding in_state while_waiting
   by_state L d r Closed is = at-refusal 3 refl
   by_state L d r Waiting is =
@@ -194,10 +192,10 @@ module _ (P : Outcome → Type 0) (e : Session) (m s out : List ℕ)
       (λ l. by-verdict L (record { edition_is = d; room = r; is_open = open_code e.state is; whole_header = leb-true 20 (length m) l }) (verdict L e m s) refl)
       (at-refusal 4 refl)
 
-  by-edition : (E : Edition) → edition_of (length s) ≡ E → P (receive_in E e m s out)
+  by-edition : (E : Option Limits) → edition_of (length s) ≡ E → P (receive_in E e m s out)
   unfolding receive_in
-  by-edition Unknown d = at-refusal 1 refl
-  by-edition (Known L) d =
+  by-edition None d = at-refusal 1 refl
+  by-edition (Some L) d =
       either (leb 1032 (length out)) (in_state (state_of e.state) L e m s out) (refuse 2 e s out)
       (λ l. by_state L d (leb-true 1032 (length out) l) (state_of e.state) refl) (at-refusal 2 refl)
 

@@ -1,13 +1,14 @@
 -- Lists of tests, and what the header tests say of the number that is remembered.
 -- Assumes nothing.
-use Rattle.std.proofs.Common.{◌≡◌, ℕ, Bool, true, false, List, [], ◌∷◌, sym, refl, ◌∙◌, eq-eqb, ne_eqb}
+use Rattle.std.proofs.Common.{◌≡◌, ℕ, Bool, true, false, List, [], ◌∷◌, Ok, Err, sym, refl, ◌∙◌}
 use Rattle.octets.proofs.BoolLaws.{clash}
 use Rattle.message.specs.declared.Task.TheVariants.{DeleteAll, EndOfUpdate}
 use Rattle.message.specs.Header.{transaction}
 use Rattle.session.specs.declared.Session.{Session}
+use Rattle.session.specs.declared.response.Response.{Response}
 use Rattle.session.specs.Sessions.{Closed, remembering}
 use Rattle.session.specs.Rules.{Test, test, header_tests, Verdict, failed, passed, first_failed, all_pass, heard}
-use Rattle.session.specs.Parts.{Faults}
+use Rattle.session.specs.Parts.{response_number, Faults}
 
 -- ---- a list of tests
 
@@ -36,25 +37,21 @@ module _ (e : Session) (m : List ℕ) where
   unfolding heard
   heard-new h = simp h
 
-  module _ (r : ℕ) (f : Faults e m r) where
-    pub header_fails : (r ≡ 0 → ⊥) → all_pass (header_tests e m) ≡ false
-    header_fails h = go (all_pass (header_tests e m)) refl
-      where
-        go : (b : Bool) → all_pass (header_tests e m) ≡ b → b ≡ false
-        go true q =
-            let p : passed EndOfUpdate ≡ failed r Closed = sym (tests_pass (header_tests e m) q (passed EndOfUpdate)) ∙ f.by (passed EndOfUpdate) ∙ simp (ne_eqb r 0 h) in
-            cc
-        go false q = refl
+  pub header_fails : (r : Response) → Faults e m (Err r) → all_pass (header_tests e m) ≡ false
+  header_fails r f = go (all_pass (header_tests e m)) refl
+    where
+      go : (b : Bool) → all_pass (header_tests e m) ≡ b → b ≡ false
+      go true q =
+          let p : passed EndOfUpdate ≡ failed (response_number r) Closed = sym (tests_pass (header_tests e m) q (passed EndOfUpdate)) ∙ f.by (passed EndOfUpdate) in
+          cc
+      go false q = refl
 
-    pub header-holds : r ≡ 0 → all_pass (header_tests e m) ≡ true
-    header-holds h = go (all_pass (header_tests e m)) refl
-      where
-        decides : (v : Verdict) → first_failed (header_tests e m) v ≡ v
-        decides v = f.by v ∙ simp (eq-eqb r 0 h)
-
-        go : (b : Bool) → all_pass (header_tests e m) ≡ b → b ≡ true
-        go true q = refl
-        go false q =
-            let p : passed EndOfUpdate ≡ passed DeleteAll =
-            sym (decides (passed EndOfUpdate)) ∙ tests_fail (header_tests e m) q (passed EndOfUpdate) (passed DeleteAll) ∙ decides (passed DeleteAll) in
-            cc
+  pub header-holds : {none : Unit {0}} → Faults e m (Ok none) → all_pass (header_tests e m) ≡ true
+  header-holds f = go (all_pass (header_tests e m)) refl
+    where
+      go : (b : Bool) → all_pass (header_tests e m) ≡ b → b ≡ true
+      go true q = refl
+      go false q =
+          let p : passed EndOfUpdate ≡ passed DeleteAll =
+          sym (f.by (passed EndOfUpdate)) ∙ tests_fail (header_tests e m) q (passed EndOfUpdate) (passed DeleteAll) ∙ f.by (passed DeleteAll) in
+          cc

@@ -1,12 +1,10 @@
 -- What is remembered of a message's transaction number: the claims of specs/Claims.antt on it, proved.
 -- Assumes nothing.
-use Rattle.std.proofs.Common.{◌≡◌, ℕ, Bool, true, false, cond, eqb, leb, List, [], length, sym, refl, ap, ◌∙◌, subst, eq-eqb, eqb-true}
+use Rattle.std.proofs.Common.{◌≡◌, ℕ, Bool, true, false, cond, eqb, leb, List, [], length, sym, refl, ap, ◌∙◌, subst, eq-eqb, eqb-true, Option, Some, None}
 use borrow.Author.Tests.{eqb-false}
 use Rattle.octets.specs.Bytes.{splice}
 use Rattle.octets.proofs.BoolLaws.{and_left, and_right, and_both}
 use Rattle.store.specs.declared.Limits.{Limits}
-use Rattle.store.specs.declared.Edition.{Edition}
-use Rattle.store.specs.declared.Edition.TheVariants.{Known, Unknown}
 use Rattle.store.specs.Layout.{edition_of}
 use Rattle.message.specs.declared.Task.{Task}
 use Rattle.message.specs.declared.Task.TheVariants.{Requests, DeleteAll, EndOfUpdate}
@@ -130,10 +128,10 @@ module _ (m s out : List ℕ) where
     beside-state L Waiting = beside-either (leb 20 (length m)) _ _ _ _ beside-waiting (beside-refused e n 4)
     beside-state L Open = beside-either (leb 20 (length m)) _ _ _ _ (beside_open L) (beside-refused e n 4)
 
-    beside-edition : (E : Edition) → SameBeside (receive_in E (beside e n) m s out) (receive_in E e m s out)
+    beside-edition : (E : Option Limits) → SameBeside (receive_in E (beside e n) m s out) (receive_in E e m s out)
     unfolding receive_in
-    beside-edition Unknown = beside-refused e n 1
-    beside-edition (Known L) = beside-either (leb 1032 (length out)) _ _ _ _ (beside-state L (state_of e.state)) (beside-refused e n 2)
+    beside-edition None = beside-refused e n 1
+    beside-edition (Some L) = beside-either (leb 1032 (length out)) _ _ _ _ (beside-state L (state_of e.state)) (beside-refused e n 2)
 
 pub none-is-none : NoneIsNone
 unfolding receive

@@ -1,9 +1,9 @@
 -- What is claimed of messages beside the contracts. proofs/Theorems.antt, proofs/TransactionLaws.antt, proofs/StoreTestLaws.antt and proofs/AnswerLaws.antt have a
 -- proof of each claim.
 -- Assumes nothing.
-use Rattle.std.specs.Prelude.{◌≡◌, ℕ, ◌+◌, ◌<◌, ◌≤◌, Bool, true, false, List, length, take, ◌≢◌, slice_index, slice_index_or}
+use Rattle.std.specs.Prelude.{◌≡◌, ℕ, ◌+◌, ◌<◌, ◌≤◌, Bool, true, false, List, length, take, ◌≢◌, slice_index, slice_index_or, Result, Some}
+use Rattle.refusal.specs.declared.Refusal.{Refusal}
 use Rattle.store.specs.declared.Limits.{Limits}
-use Rattle.store.specs.declared.Edition.TheVariants.{Known}
 use Rattle.store.specs.Layout.{edition_of}
 use Rattle.store.specs.Store.{sound}
 use Rattle.message.specs.declared.Task.{Task}
@@ -11,15 +11,14 @@ use Rattle.message.specs.declared.Kind.TheVariants.{Asks}
 use Rattle.message.specs.Header.{message_length, transaction, kind}
 use Rattle.message.specs.Body.{body_ok, request_number}
 use Rattle.session.specs.declared.Session.{Session}
-use Rattle.session.specs.declared.Begun.{Begun}
 use Rattle.session.specs.declared.Received.{Received}
 use Rattle.session.specs.Sessions.{State, Closed, Open, code_of, closing, begin, begins, refuses, begin_output, begun_as}
 use Rattle.session.specs.Rules.{Outcome, header_tests, transaction_tests, asks_store, all_pass, receive, reply, opened, refused, received_as}
 
 -- the paper's numbers are those of one answer only: a contract that fixes them fixes the answer
 pub record OneAnswer : Type 0 where
-  pub of_begin : (a b : Begun) → begun_as a ≡ begun_as b → a ≡ b
-  pub of_message : (a b : Received) → received_as a ≡ received_as b → a ≡ b
+  pub of_begin : (a b : Result (Session × ℕ) Refusal) → begun_as a ≡ begun_as b → a ≡ b
+  pub of_message : (a b : Result Received Refusal) → received_as a ≡ received_as b → a ≡ b
 
 -- demand 1: a refusal writes to no lent buffer
 pub record RefusalWritesNothing : Type 0 where
@@ -56,7 +55,7 @@ pub record ReplyLength : Type 0 where
 
 -- the message comes to it: no refusal applies, and the session is open
 pub record Tested (L : Limits) (e : Session) (m s out : List ℕ) : Type 0 where
-  pub edition_is : edition_of (length s) ≡ Known L
+  pub edition_is : edition_of (length s) ≡ Some L
   pub room : 1032 ≤ length out
   pub is_open : e.state ≡ code_of Open
   pub whole_header : 20 ≤ length m

@@ -1,11 +1,10 @@
 -- What a message does (document 01, "Sessions" and "What each request does"): the refusals, the waiting rule, the table of tests, and the work.
 -- Assumes nothing.
-use Rattle.std.specs.Prelude.{◌≡◌, ℕ, ◌+◌, Bool, true, false, cond, not, ◌&&◌, ◌||◌, List, [], ◌∷◌, length, ◌==◌, nat_le}
+use Rattle.std.specs.Prelude.{◌≡◌, ℕ, ◌+◌, Bool, true, false, cond, not, ◌&&◌, ◌||◌, List, [], ◌∷◌, length, ◌==◌, nat_le, Result, Ok, Err, Option, Some, None}
 use Rattle.octets.specs.Bytes.{splice}
+use Rattle.refusal.specs.declared.Refusal.{Refusal}
 use Rattle.refusal.specs.House.{house_number}
 use Rattle.store.specs.declared.Limits.{Limits}
-use Rattle.store.specs.declared.Edition.{Edition}
-use Rattle.store.specs.declared.Edition.TheVariants.{Known, Unknown}
 use Rattle.store.specs.Layout.{edition_of}
 use Rattle.store.specs.Store.{encode, entries, sound}
 use Rattle.store.specs.Request.{work}
@@ -158,9 +157,9 @@ in_state Closed L e m s out = refuse 3 e s out
 in_state Waiting L e m s out = cond (nat_le header_length (length m)) (while_waiting e m s out) (refuse 4 e s out)
 in_state Open L e m s out = cond (nat_le header_length (length m)) (judged (verdict L e m s) L (heard e m) m s out) (refuse 4 e s out)
 
-unfoldable pub receive_in : Edition → Session → List ℕ → List ℕ → List ℕ → Outcome
-receive_in Unknown e m s out = refuse 1 e s out
-receive_in (Known L) e m s out = cond (nat_le 1032 (length out)) (in_state (state_of e.state) L e m s out) (refuse 2 e s out)
+unfoldable pub receive_in : Option Limits → Session → List ℕ → List ℕ → List ℕ → Outcome
+receive_in None e m s out = refuse 1 e s out
+receive_in (Some L) e m s out = cond (nat_le 1032 (length out)) (in_state (state_of e.state) L e m s out) (refuse 2 e s out)
 
 unfoldable pub receive : Session → List ℕ → List ℕ → List ℕ → Outcome
 receive e m s out = receive_in (edition_of (length s)) e m s out
@@ -168,14 +167,14 @@ receive e m s out = receive_in (edition_of (length s)) e m s out
 -- ---- the call
 
 -- the answer in the paper's numbers
-abbrev pub received_as : Received → Answered
-received_as (ReceivedAs.Reply n) = reply n
-received_as ReceivedAs.Opened = opened
-received_as ReceivedAs.Ended = ended
-received_as (ReceivedAs.Refused h) = refused (house_number h)
+abbrev pub received_as : Result Received Refusal → Answered
+received_as (Ok (ReceivedAs.Reply n)) = reply n
+received_as (Ok ReceivedAs.Opened) = opened
+received_as (Ok ReceivedAs.Ended) = ended
+received_as (Err h) = refused (house_number h)
 
 -- the answer, the session, and every byte of the store and of the output afterwards are those of an outcome
-pub record Does (o : Outcome) (answer : Received) (session : Session) (store output : List ℕ) : Type 0 where
+pub record Does (o : Outcome) (answer : Result Received Refusal) (session : Session) (store output : List ℕ) : Type 0 where
   pub answer_is : received_as answer ≡ o.answer
   pub session_is : session ≡ o.session
   pub store_is : store ≡ o.store

@@ -1,12 +1,11 @@
 -- Sessions (document 01, "Sessions"): the state codes, the numbers that rise, and how a session begins.
 -- Assumes nothing.
-use Rattle.std.specs.Prelude.{◌≡◌, ℕ, ◌+◌, ◌%◌, Bool, true, false, cond, not, List, length, ◌==◌, nat_le}
+use Rattle.std.specs.Prelude.{◌≡◌, ℕ, ◌+◌, ◌%◌, Bool, true, false, cond, not, List, length, ◌==◌, nat_le, Result, Ok, Err}
 use Rattle.octets.specs.Bytes.{splice}
+use Rattle.refusal.specs.declared.Refusal.{Refusal}
 use Rattle.refusal.specs.House.{house_number}
 use Rattle.message.specs.Written.{init_bytes}
 use Rattle.session.specs.declared.Session.{Session}
-use Rattle.session.specs.declared.Begun.{Begun}
-use Rattle.session.specs.declared.Begun.TheVariants as BegunAs
 
 -- ---- state codes: 0 closed, 1 waiting, 2 open; a session with any other code is a closed one
 
@@ -82,10 +81,10 @@ begin_output (begins e n) own peer start out = splice out 0 (init_bytes own peer
 begin_output (refuses n) own peer start out = out
 
 -- the answer in the paper's numbers
-abbrev pub begun_as : Begun → Beginning
-begun_as (BegunAs.Made e n) = begins e n
-begun_as (BegunAs.Refused h) = refuses (house_number h)
+abbrev pub begun_as : Result (Session × ℕ) Refusal → Beginning
+begun_as (Ok (e, n)) = begins e n
+begun_as (Err h) = refuses (house_number h)
 
-pub record Begins (own peer start : ℕ) (out after : List ℕ) (r : Begun) : Type 0 where
+pub record Begins (own peer start : ℕ) (out after : List ℕ) (r : Result (Session × ℕ) Refusal) : Type 0 where
   pub answer : begun_as r ≡ begin own peer start out
   pub written : after ≡ begin_output (begin own peer start out) own peer start out

@@ -1,97 +1,61 @@
 // The tests of a message's header, in the order of document 01.
-ghost use Rattle.std.specs.Prelude.{◌≡◌, ◌≤◌, length};
+ghost use Rattle.std.specs.Prelude.{◌≡◌};
 ghost use Rattle.session.specs.Rules.{length_ok, is_init, opens};
 ghost use Rattle.session.specs.Parts.{Faults};
 ghost use Rattle.message.specs.Header.{kind};
 
 use crate::Session;
+use crate::headed::Headed;
+use crate::response::Response;
+use message::Kind;
 use message::written::init_ok;
-use message::{Kind, RECEIVER_AT, SENDER_AT, SEQUENCE_AT, TYPE_AT, VERSION_AT};
-
-// RESPONSE of each test (000, 5.3.15).
-const DONE: u8 = 0;
-
-const LENGTH_ERROR: u8 = 2;
-
-const SENDER_MISMATCH: u8 = 3;
-
-const RECEIVER_MISMATCH: u8 = 4;
-
-const VERSION_MISMATCH: u8 = 5;
-
-const SEQUENCE_MISMATCH: u8 = 9;
-
-fn wide(x: u32) -> usize
-    ensures { result ≡ x }
-{
-    x as usize
-}
 
 // The length field is the number of bytes delivered, at most 5,000.
-fn length_ok(m: &[u8]) -> bool
-    requires { 20 ≤ length m.now }
-    ensures { result ≡ length_ok m.now }
+fn length_ok(m: Headed<'_>) -> bool
+    ensures { result ≡ length_ok m.entry.bytes.now }
 {
-    if wide(octets::get32_at(m, 0)) != m.len() {
-        return false;
-    }
-    m.len() <= Session::MESSAGE_MOST
+    m.length() as usize == m.bytes.len() && m.bytes.len() <= Session::MESSAGE_MOST
 }
 
-// RESPONSE of the first header test that fails, 0 where none does.
-pub fn header_fault(e: Session, m: &[u8]) -> u8
-    requires { 20 ≤ length m.now }
-    ensures { Faults e m.now result }
+// The RESPONSE of the first header test that fails.
+#[tactic(auto, unfolding(crate::specs::Rules::first_failed))]
+pub fn header_fault(e: Session, m: Headed<'_>) -> Result<(), Response>
+    ensures { Faults e m.entry.bytes.now result }
 {
     if !length_ok(m) {
-        return LENGTH_ERROR;
+        return Err(Response::LengthError);
     }
-    if m[VERSION_AT] != Session::VERSION {
-        return VERSION_MISMATCH;
+    if m.version() != Session::VERSION {
+        return Err(Response::VersionMismatch);
     }
-    if octets::get32_at(m, RECEIVER_AT) != e.own {
-        return RECEIVER_MISMATCH;
+    if m.receiver() != e.own {
+        return Err(Response::ReceiverMismatch);
     }
-    if octets::get32_at(m, SENDER_AT) != e.peer {
-        return SENDER_MISMATCH;
+    if m.sender() != e.peer {
+        return Err(Response::SenderMismatch);
     }
-    if octets::get16_at(m, SEQUENCE_AT) != e.expected {
-        return SEQUENCE_MISMATCH;
+    if m.sequence() != e.expected {
+        return Err(Response::SequenceMismatch);
     }
-    DONE
+    Ok(())
 }
 
 // The message is a session init.
-fn is_init(m: &[u8]) -> bool
-    requires { 20 ≤ length m.now }
-    ensures { result ≡ is_init (kind m.now) }
+fn is_init(m: Headed<'_>) -> bool
+    ensures { result ≡ is_init (kind m.entry.bytes.now) }
 {
-    match message::kind_of(m[TYPE_AT]) {
-        Kind::Asks(_) => false,
-        Kind::SessionInit => true,
-        Kind::Other => false,
-    }
+    matches!(m.kind(), Kind::SessionInit)
 }
 
 // The one message that opens a waiting session.
-pub fn is_opening(e: Session, m: &[u8]) -> bool
-    requires { 20 ≤ length m.now }
-    ensures { result ≡ opens e m.now }
+#[tactic(auto, unfolding(crate::specs::Rules::opens))]
+pub fn is_opening(e: Session, m: Headed<'_>) -> bool
+    ensures { result ≡ opens e m.entry.bytes.now }
 {
-    if !is_init(m) {
-        return false;
-    }
-    if !length_ok(m) {
-        return false;
-    }
-    if m[VERSION_AT] != Session::VERSION {
-        return false;
-    }
-    if octets::get32_at(m, RECEIVER_AT) != e.own {
-        return false;
-    }
-    if octets::get32_at(m, SENDER_AT) != e.peer {
-        return false;
-    }
-    init_ok(m)
+    is_init(m)
+        && length_ok(m)
+        && m.version() == Session::VERSION
+        && m.receiver() == e.own
+        && m.sender() == e.peer
+        && init_ok(m.bytes)
 }

@@ -1,26 +1,32 @@
 // Sessions with the key centre (document 01, "Sessions"): begin and receive.
 #![tactic(auto)]
 
-ghost use Rattle.std.specs.Prelude.{◌≡◌, ◌≤◌, true, length};
+ghost use Rattle.std.specs.Prelude.{◌≡◌, ◌+◌, ◌≤◌, true, length};
 ghost use Rattle.store.specs.Layout.{total, Bounded};
 ghost use Rattle.store.specs.Store.{sound};
 ghost use Rattle.refusal.specs.House.{house_number};
-ghost use Rattle.message.specs.Header.{kind};
+ghost use Rattle.octets.specs.Bytes.{splice};
+ghost use Rattle.message.specs.Header.{kind, transaction};
 ghost use Rattle.message.specs.Body.{body_ok};
+ghost use Rattle.message.specs.Written.{reply_head};
 ghost use Rattle.session.specs.Sessions.{Begins, Closed, Open, closing, opening, remembering, replied};
 ghost use Rattle.session.specs.Rules.{receive, receive_in, in_state, judged, type_test, repeats, obey, Does};
-ghost use Rattle.session.specs.Parts.{Refuses, Waits, Responds, Reports, work_if_sound};
+ghost use Rattle.session.specs.Parts.{response_number, Lent, Refuses, Waits, Reports, work_if_sound};
 
+use crate::headed::Headed;
 use crate::header::{header_fault, is_opening};
+use crate::response::Response;
 use message::body::{REQ_NUM_AT, body_ok};
 use message::written::{HEAD, put_init, put_reply};
-use message::{Command, HEADER, Kind, SEQUENCE_AT, TRANSACTION_AT, TYPE_AT, Task};
+use message::{Command, Kind, Task};
 use refusal::Refusal;
 use store::editions::edition_of;
 use store::sound::is_sound;
-use store::{Edition, Limits, write_empty};
+use store::{Limits, write_empty};
 
+mod headed;
 mod header;
+mod response;
 
 #[derive(Clone, Copy)]
 pub struct Session {
@@ -29,36 +35,28 @@ pub struct Session {
     pub peer: u32,
     pub next: u16,
     pub expected: u16,
-    // Whether a transaction number is remembered, and which: zero is one like another.
+    // Whether a transaction number is remembered, and which: zero is one like another. Two fields and no Option: C keeps both, and what does not set the number keeps it as it came (claims NoneIsNone and NotHeard).
     pub remembered: bool,
     pub transaction: u32,
 }
 
-// What begin answers: the session and the length written.
-#[derive(Clone, Copy)]
-pub enum Begun {
-    Made(Session, usize),
-    Refused(Refusal),
-}
-
-// What receive answers: the length of the reply, that the session is opened, or that it is ended.
+// What a message that is not refused does: a reply of a length, or the session is opened or ended.
 #[derive(Clone, Copy)]
 pub enum Received {
     Reply(usize),
     Opened,
     Ended,
-    Refused(Refusal),
 }
 
 // The answer to a message, and the session for the next.
 #[derive(Clone, Copy)]
 pub struct Turn {
-    pub answer: Received,
+    pub answer: Result<Received, Refusal>,
     pub session: Session,
 }
 
 impl Session {
-    // State codes; a session with any other code is a closed one.
+    // State codes, constants as document 01 asks; a session with any other code, which C may lend, is a closed one.
     pub const CLOSED: u8 = 0;
 
     pub const WAITING: u8 = 1;
@@ -72,17 +70,6 @@ impl Session {
 
     pub const OUTPUT_LEAST: usize = 1032;
 
-    // RESPONSE (000, 5.3.15) where no header test failed.
-    const DONE: u8 = 0;
-
-    const NOT_SUPPORTED: u8 = 1;
-
-    const STORE_UNSOUND: u8 = 6;
-
-    const TRANSACTION_MISMATCH: u8 = 10;
-
-    const FORMAT_ERROR: u8 = 11;
-
     // ---- what becomes of a session
 
     fn closed(self) -> Session
@@ -90,53 +77,44 @@ impl Session {
     {
         Session {
             state: Session::CLOSED,
-            own: self.own,
-            peer: self.peer,
-            next: self.next,
-            expected: self.expected,
-            remembered: self.remembered,
-            transaction: self.transaction,
+            ..self
         }
     }
 
     fn opened(self, number: u16) -> Session
         ensures { result ≡ opening self number }
     {
-        let expected = std::num::wrapping_add_u16(number, 1);
+        let expected = number.wrapping_add(1);
         Session {
             state: Session::OPEN,
-            own: self.own,
-            peer: self.peer,
-            next: self.next,
             expected,
             remembered: false,
             transaction: 0,
+            ..self
         }
     }
 
     fn remembering(self, number: u32) -> Session
         ensures { result ≡ remembering self number }
     {
-        let mut session = self;
-        session.remembered = true;
-        session.transaction = number;
-        session
+        Session {
+            remembered: true,
+            transaction: number,
+            ..self
+        }
     }
 
     // After a reply that leaves the session open.
     fn kept(self) -> Session
         ensures { result ≡ replied self Open }
     {
-        let next = std::num::wrapping_add_u16(self.next, 1);
-        let expected = std::num::wrapping_add_u16(self.expected, 1);
+        let next = self.next.wrapping_add(1);
+        let expected = self.expected.wrapping_add(1);
         Session {
             state: Session::OPEN,
-            own: self.own,
-            peer: self.peer,
             next,
             expected,
-            remembered: self.remembered,
-            transaction: self.transaction,
+            ..self
         }
     }
 
@@ -144,32 +122,34 @@ impl Session {
     fn dropped(self) -> Session
         ensures { result ≡ replied self Closed }
     {
-        let next = std::num::wrapping_add_u16(self.next, 1);
+        let next = self.next.wrapping_add(1);
         Session {
             state: Session::CLOSED,
-            own: self.own,
-            peer: self.peer,
             next,
-            expected: self.expected,
-            remembered: self.remembered,
-            transaction: self.transaction,
+            ..self
         }
     }
 
     // ---- begin
 
-    // Begins a session: writes a session init with the starting number. Refuses H2, H6.
-    pub fn begin(own: u32, peer: u32, number: u16, out: &mut [u8]) -> Begun
+    // Begins a session: writes a session init with the starting number, and hands back its length. Refuses H2, H6.
+    #[tactic(auto, unfolding(crate::specs::Sessions::begin))]
+    pub fn begin(
+        own: u32,
+        peer: u32,
+        number: u16,
+        out: &mut [u8],
+    ) -> Result<(Session, usize), Refusal>
         ensures { Begins own peer number out.old out.new result }
     {
         if out.len() < Session::OUTPUT_LEAST {
-            return Begun::Refused(Refusal::OutputLength);
+            return Err(Refusal::OutputLength);
         }
         if own == peer {
-            return Begun::Refused(Refusal::SameIdentity);
+            return Err(Refusal::SameIdentity);
         }
         put_init(out, own, peer, number);
-        let next = std::num::wrapping_add_u16(number, 1);
+        let next = number.wrapping_add(1);
         let session = Session {
             state: Session::WAITING,
             own,
@@ -179,137 +159,145 @@ impl Session {
             remembered: false,
             transaction: 0,
         };
-        Begun::Made(session, HEAD)
+        Ok((session, HEAD))
     }
 
-    // ---- replies with no RESULT
+    // ---- answers
 
-    // A reply that closes the session.
-    fn drop_with(self, response: u8, m: &[u8], out: &mut [u8]) -> Turn
-        requires { (20 ≤ length m.now) × (23 ≤ length out.old) }
-        ensures { Responds response Closed self m.now out.old out.new result.answer result.session }
-    {
-        let number = octets::get32_at(m, TRANSACTION_AT);
-        put_reply(out, self.own, self.peer, number, self.next, response, 0);
-        Turn {
-            answer: Received::Reply(HEAD),
-            session: self.dropped(),
-        }
-    }
-
-    // A reply that keeps it open.
-    fn keep_with(self, response: u8, m: &[u8], out: &mut [u8]) -> Turn
-        requires { (20 ≤ length m.now) × (23 ≤ length out.old) }
-        ensures { Responds response Open self m.now out.old out.new result.answer result.session }
-    {
-        let number = octets::get32_at(m, TRANSACTION_AT);
-        put_reply(out, self.own, self.peer, number, self.next, response, 0);
-        Turn {
-            answer: Received::Reply(HEAD),
-            session: self.kept(),
-        }
-    }
-
-    // ---- waiting
-
-    // The first message: a valid session init opens the session, anything else closes it. Refuses H5.
-    fn receive_waiting(self, m: &[u8]) -> Turn
-        requires { 20 ≤ length m.now }
-        ensures { Waits self m.now result.answer result.session }
-    {
-        if is_opening(self, m) {
-            return Turn {
-                answer: Received::Opened,
-                session: self.opened(octets::get16_at(m, SEQUENCE_AT)),
-            };
-        }
-        Turn {
-            answer: Received::Refused(Refusal::NoSessionInit),
-            session: self.closed(),
-        }
-    }
-
+    #[tactic(auto, unfolding(crate::specs::Rules::refuse))]
     fn refuse(self, h: Refusal) -> Turn
         ensures { Refuses (house_number h) self result.answer result.session }
     {
         Turn {
-            answer: Received::Refused(h),
+            answer: Err(h),
             session: self,
         }
     }
 
-    // ---- a command past all tests
-
-    // Writes a reply's head before the n RESULTs that stand in out already.
-    fn report(self, n: u16, m: &[u8], out: &mut [u8]) -> Turn
-        requires { (20 ≤ length m.now) × (23 ≤ length out.old) }
-        ensures { Reports n self m.now out.old out.new result.answer result.session }
+    // Writes a reply's head before the n RESULTs that stand in out already. The session is then the one given.
+    fn reply(
+        self,
+        response: Response,
+        n: u16,
+        after: Session,
+        m: Headed<'_>,
+        out: &mut [u8],
+    ) -> Turn
+        requires { 23 ≤ length out.old }
+        ensures answer { result.answer ≡ Ok (Received.Reply (23 + n)) }
+        ensures session { result.session ≡ after }
+        ensures output { out.new ≡ splice out.old 0 (reply_head self.own self.peer (transaction m.entry.bytes.now) self.next (response_number response) n) }
     {
-        let number = octets::get32_at(m, TRANSACTION_AT);
+        let number = m.transaction();
         put_reply(
             out,
             self.own,
             self.peer,
             number,
             self.next,
-            Session::DONE,
+            response.number(),
             n,
         );
         Turn {
-            answer: Received::Reply(HEAD + (n as usize)),
-            session: self.kept(),
+            answer: Ok(Received::Reply(HEAD + (n as usize))),
+            session: after,
         }
     }
 
-    // The requests of a command, on a sound store. RESPONSE is 0, whatever the RESULTs.
-    fn work(self, command: Command, lim: Limits, m: &[u8], s: &mut [u8], out: &mut [u8]) -> Turn
-        requires { (Bounded lim) × (sound lim s.old ≡ true) × (20 ≤ length m.now) × (body_ok (Task.Requests command) m.now ≡ true) × (1032 ≤ length out.old) }
-        ensures { Does (obey lim (Task.Requests command) self m.now s.old out.old) result.answer result.session s.new out.new }
+    // The same with RESPONSE 0, in a session that stays open.
+    fn report(self, n: u16, m: Headed<'_>, out: &mut [u8]) -> Turn
+        requires { 23 ≤ length out.old }
+        ensures { Reports n self m.entry.bytes.now out.old out.new result.answer result.session }
     {
-        let n = octets::get16_at(m, REQ_NUM_AT);
-        command::work(s, out, lim, self.own, command, m, n as usize);
+        self.reply(Response::Done, n, self.kept(), m, out)
+    }
+
+    // ---- waiting
+
+    // The first message: a valid session init opens the session, anything else closes it. Refuses H5.
+    #[tactic(auto, unfolding(crate::specs::Rules::while_waiting, crate::specs::Rules::refuse))]
+    fn receive_waiting(self, m: Headed<'_>) -> Turn
+        ensures { Waits self m.entry.bytes.now result.answer result.session }
+    {
+        if is_opening(self, m) {
+            return Turn {
+                answer: Ok(Received::Opened),
+                session: self.opened(m.sequence()),
+            };
+        }
+        Turn {
+            answer: Err(Refusal::NoSessionInit),
+            session: self.closed(),
+        }
+    }
+
+    // ---- a command past all tests
+    // lim, m, s and out stay four parameters: a struct would hold two `&mut`, and each contract would say of each what it leaves, and that it is still the same.
+
+    // The requests of a command, on a sound store. RESPONSE is 0, whatever the RESULTs.
+    fn work(
+        self,
+        command: Command,
+        lim: Limits,
+        m: Headed<'_>,
+        s: &mut [u8],
+        out: &mut [u8],
+    ) -> Turn
+        requires bounded { Bounded lim }
+        requires sound { sound lim s.old ≡ true }
+        requires body { body_ok (Task.Requests command) m.bytes.now ≡ true }
+        requires room { 1032 ≤ length out.old }
+        ensures { Does (obey lim (Task.Requests command) self m.entry.bytes.now s.old out.old) result.answer result.session s.new out.new }
+    {
+        let n = octets::get16_at(m.bytes, REQ_NUM_AT);
+        command::work(s, out, lim, self.own, command, m.bytes, n as usize);
         self.report(n, m, out)
     }
 
     // The store test: an unsound store is answered 6, before any request is worked and nowhere else.
+    #[tactic(auto, unfolding(crate::specs::Rules::first_failed, crate::specs::Rules::respond))]
     fn work_if_sound(
         self,
         command: Command,
         lim: Limits,
-        m: &[u8],
+        m: Headed<'_>,
         s: &mut [u8],
         out: &mut [u8],
     ) -> Turn
-        requires { (Bounded lim) × (20 ≤ length m.now) × (body_ok (Task.Requests command) m.now ≡ true) × (1032 ≤ length out.old) }
-        ensures { Does (work_if_sound lim command self m.now s.old out.old) result.answer result.session s.new out.new }
+        requires bounded { Bounded lim }
+        requires body { body_ok (Task.Requests command) m.bytes.now ≡ true }
+        requires room { 1032 ≤ length out.old }
+        ensures { Does (work_if_sound lim command self m.entry.bytes.now s.old out.old) result.answer result.session s.new out.new }
     {
         if !is_sound(s, lim) {
-            return self.keep_with(Session::STORE_UNSOUND, m, out);
+            return self.reply(Response::StoreUnsound, 0, self.kept(), m, out);
         }
         self.work(command, lim, m, s, out)
     }
 
-    fn delete_all(self, lim: Limits, m: &[u8], s: &mut [u8], out: &mut [u8]) -> Turn
-        requires { (Bounded lim) × (length s.old ≡ total lim) × (20 ≤ length m.now) × (1032 ≤ length out.old) }
-        ensures { Does (obey lim Task.DeleteAll self m.now s.old out.old) result.answer result.session s.new out.new }
+    #[tactic(auto, unfolding(crate::specs::Rules::obey))]
+    fn delete_all(self, lim: Limits, m: Headed<'_>, s: &mut [u8], out: &mut [u8]) -> Turn
+        requires { Lent lim s.old out.old }
+        ensures { Does (obey lim Task.DeleteAll self m.entry.bytes.now s.old out.old) result.answer result.session s.new out.new }
     {
         write_empty(s, lim);
         self.report(0, m, out)
     }
 
     // A message of one of the six types whose header is right.
-    fn perform(self, task: Task, lim: Limits, m: &[u8], s: &mut [u8], out: &mut [u8]) -> Turn
-        requires { (Bounded lim) × (length s.old ≡ total lim) × (20 ≤ length m.now) × (1032 ≤ length out.old) }
-        ensures { Does (judged (type_test (Kind.Asks task) lim m.now s.old) lim self m.now s.old out.old) result.answer result.session s.new out.new }
+    #[tactic(auto, unfolding(crate::specs::Rules::first_failed, crate::specs::Rules::obey, crate::specs::Rules::respond))]
+    fn perform(self, task: Task, lim: Limits, m: Headed<'_>, s: &mut [u8], out: &mut [u8]) -> Turn
+        requires { Lent lim s.old out.old }
+        ensures { Does (judged (type_test (Kind.Asks task) lim m.entry.bytes.now s.old) lim self m.entry.bytes.now s.old out.old) result.answer result.session s.new out.new }
     {
-        if !body_ok(task, m) {
-            return self.drop_with(Session::FORMAT_ERROR, m, out);
+        if !body_ok(task, m.bytes) {
+            return self.reply(Response::FormatError, 0, self.dropped(), m, out);
         }
         match task {
             Task::Requests(command) => self.work_if_sound(command, lim, m, s, out),
             Task::DeleteAll => self.delete_all(lim, m, s, out),
             Task::EndOfUpdate => Turn {
-                answer: Received::Ended,
+                answer: Ok(Received::Ended),
                 session: self.closed(),
             },
         }
@@ -318,14 +306,16 @@ impl Session {
     // ---- receive
 
     // A message whose header is right and whose transaction number is another than the last, by its type.
-    fn receive_typed(self, lim: Limits, m: &[u8], s: &mut [u8], out: &mut [u8]) -> Turn
-        requires { (Bounded lim) × (length s.old ≡ total lim) × (20 ≤ length m.now) × (1032 ≤ length out.old) }
-        ensures { Does (judged (type_test (kind m.now) lim m.now s.old) lim self m.now s.old out.old) result.answer result.session s.new out.new }
+    #[tactic(auto, unfolding(crate::specs::Rules::respond))]
+    fn receive_typed(self, lim: Limits, m: Headed<'_>, s: &mut [u8], out: &mut [u8]) -> Turn
+        requires { Lent lim s.old out.old }
+        ensures { Does (judged (type_test (kind m.entry.bytes.now) lim m.entry.bytes.now s.old) lim self m.entry.bytes.now s.old out.old) result.answer result.session s.new out.new }
     {
-        match message::kind_of(m[TYPE_AT]) {
+        match m.kind() {
             Kind::Asks(task) => self.perform(task, lim, m, s, out),
-            Kind::SessionInit => self.keep_with(Session::NOT_SUPPORTED, m, out),
-            Kind::Other => self.keep_with(Session::NOT_SUPPORTED, m, out),
+            Kind::SessionInit | Kind::Other => {
+                self.reply(Response::NotSupported, 0, self.kept(), m, out)
+            }
         }
     }
 
@@ -333,60 +323,56 @@ impl Session {
     fn repeats(self, number: u32) -> bool
         ensures { result ≡ repeats self number }
     {
-        if !self.remembered {
-            return false;
-        }
-        number == self.transaction
+        self.remembered && number == self.transaction
     }
 
-    // A message to an open session. Refuses H4.
-    fn receive_open(self, lim: Limits, m: &[u8], s: &mut [u8], out: &mut [u8]) -> Turn
-        requires { (Bounded lim) × (length s.old ≡ total lim) × (1032 ≤ length out.old) }
-        ensures { Does (in_state Open lim self m.now s.old out.old) result.answer result.session s.new out.new }
+    // A message to an open session.
+    #[tactic(auto, unfolding(crate::specs::Rules::in_state, crate::specs::Rules::respond, crate::specs::Rules::verdict, crate::specs::Rules::first_failed, crate::specs::Rules::heard))]
+    fn receive_open(self, lim: Limits, m: Headed<'_>, s: &mut [u8], out: &mut [u8]) -> Turn
+        requires { Lent lim s.old out.old }
+        ensures { Does (in_state Open lim self m.entry.bytes.now s.old out.old) result.answer result.session s.new out.new }
     {
-        if m.len() < HEADER {
-            return self.refuse(Refusal::MessageShort);
+        if let Err(response) = header_fault(self, m) {
+            return self.reply(response, 0, self.dropped(), m, out);
         }
-        let fault = header_fault(self, m);
-        if fault != Session::DONE {
-            return self.drop_with(fault, m, out);
-        }
-        let number = octets::get32_at(m, TRANSACTION_AT);
+        let number = m.transaction();
         let session = self.remembering(number);
         if self.repeats(number) {
-            return session.drop_with(Session::TRANSACTION_MISMATCH, m, out);
+            return session.reply(Response::TransactionMismatch, 0, session.dropped(), m, out);
         }
         session.receive_typed(lim, m, s, out)
     }
 
     // A message with a store of an edition. Refuses H2, H3, H4, H5.
+    #[tactic(auto, unfolding(crate::specs::Rules::receive_in, crate::specs::Rules::in_state))]
     fn receive_in(self, lim: Limits, m: &[u8], s: &mut [u8], out: &mut [u8]) -> Turn
         requires { (Bounded lim) × (length s.old ≡ total lim) }
-        ensures { Does (receive_in (Edition.Known lim) self m.now s.old out.old) result.answer result.session s.new out.new }
+        ensures { Does (receive_in (Some lim) self m.now s.old out.old) result.answer result.session s.new out.new }
     {
         let state = self.state;
         if out.len() < Session::OUTPUT_LEAST {
             return self.refuse(Refusal::OutputLength);
         }
-        if state == Session::OPEN {
-            return self.receive_open(lim, m, s, out);
-        }
-        if state != Session::WAITING {
+        if state != Session::OPEN && state != Session::WAITING {
             return self.refuse(Refusal::SessionClosed);
         }
-        if m.len() < HEADER {
+        let Some(m) = Headed::new(m) else {
             return self.refuse(Refusal::MessageShort);
+        };
+        if state == Session::OPEN {
+            return self.receive_open(lim, m, s, out);
         }
         self.receive_waiting(m)
     }
 
     // Takes a message: works it on the store and writes the reply to the front of out. Refuses H1, H2, H3, H4, H5.
+    #[tactic(auto, unfolding(crate::specs::Rules::receive, crate::specs::Rules::receive_in))]
     pub fn receive(self, message: &[u8], store: &mut [u8], out: &mut [u8]) -> Turn
         ensures { Does (receive self message.now store.old out.old) result.answer result.session store.new out.new }
     {
-        match edition_of(store.len()) {
-            Edition::Known(lim) => self.receive_in(lim, message, store, out),
-            Edition::Unknown => self.refuse(Refusal::StoreLength),
-        }
+        let Some(lim) = edition_of(store.len()) else {
+            return self.refuse(Refusal::StoreLength);
+        };
+        self.receive_in(lim, message, store, out)
     }
 }

@@ -8,8 +8,8 @@ ghost use Rattle.session.specs.Rules.{receive, received_as};
 ghost use Rattle.session_buffer.specs.SessionBuffer.{session_of, begun_length, begun_buffer, reply_length, Short, Tells};
 
 use crate::buffers::{bytes_of, is_written, load};
-use refusal::refusal_code;
-use session::{Begun, Received, Session};
+use refusal::Refusal;
+use session::{Received, Session};
 
 mod buffers;
 
@@ -20,24 +20,23 @@ pub fn begin(own: u32, peer: u32, number: u16, session: &mut [u8; 32], out: &mut
     ensures out_after { out.new ≡ begin_output (begin own peer number out.old) own peer number out.old }
 {
     match Session::begin(own, peer, number, out) {
-        Begun::Made(made, n) => {
+        Ok((made, n)) => {
             *session = bytes_of(made);
             n as i32
         }
-        Begun::Refused(h) => refusal_code(h),
+        Err(h) => i32::from(h),
     }
 }
 
 // What C is told of an answer to a message.
-fn told(answer: Received) -> i32
+fn told(answer: Result<Received, Refusal>) -> i32
     requires { Short (received_as answer) }
     ensures { result ≡ code (reply_length (received_as answer)) }
 {
     match answer {
-        Received::Reply(n) => n as i32,
-        Received::Opened => 0,
-        Received::Ended => 0,
-        Received::Refused(h) => refusal_code(h),
+        Ok(Received::Reply(n)) => n as i32,
+        Ok(Received::Opened | Received::Ended) => 0,
+        Err(h) => i32::from(h),
     }
 }
 
@@ -45,13 +44,9 @@ fn told(answer: Received) -> i32
 pub fn receive(session: &mut [u8; 32], message: &[u8], store: &mut [u8], out: &mut [u8]) -> i32
     ensures { Tells (receive (session_of session.old) message.now store.old out.old) result session.old session.new store.new out.new }
 {
-    let before = load(session);
-    let turn = before.receive(message, store, out);
-    let answer = turn.answer;
-    let said = told(answer);
-    if is_written(answer) {
+    let turn = load(session).receive(message, store, out);
+    if is_written(turn.answer) {
         *session = bytes_of(turn.session);
-        return said;
     }
-    said
+    told(turn.answer)
 }

@@ -1,4 +1,4 @@
-// Connection set-up (SUBSET-037-2, 6.2.6): one connection, as caller or called, on a KMAC of the store. Each call that hands back a step is an event of Table 20, with a match on the state of which each arm is a square; `unit` matches on the kind, and its squares ask for the state.
+// Connection set-up (SUBSET-037-2, 6.2.6): one connection, as caller or called, on a KMAC of the store. Each call that hands back a step is an event of Table 20, with a match on the state: an arm is a square, or all squares in which nothing is done; `unit` matches on the kind, and its squares ask for the state.
 #![tactic(auto)]
 
 ghost use Rattle.std.specs.Prelude.{◌≡◌};
@@ -12,13 +12,17 @@ use squares::calling::{answered, requested};
 use squares::received::{data_of, take_ar, take_au3, take_dt};
 use squares::user::{lost, send_dt};
 use table::ends::{broken, ended, ended_by_di, refuse, unmoved};
-use table::states::state_of;
-use table::{AR_NUMBER, AU3_NUMBER, Connection, Kind, State, Step, ToTransport, ToUser};
+use table::{Connection, Kind, State, Step, ToTransport, ToUser};
+use units::Code;
+use units::header::{AR, AU3, mti};
 use units::reason::{NO_AR, TIME_OUT};
+
+// Each event tests H2 for itself: one function for it would take the square as a closure, whose contract says the event's own once more.
 
 // ---- events from the user
 
 // Sa-CONNECT.request, at the moment t: searches the key of the peer, and sends AU1. Refuses H2, H1, H12, H11.
+// The parameters of a request or an indication are those that C lends, one by one: a struct of them would be made in one call and taken apart in the next.
 pub fn request(
     c: Connection,
     acceptable: bool,
@@ -34,13 +38,9 @@ pub fn request(
     if out.len() < Connection::OUTPUT_LEAST {
         return refuse(c, Refusal::OutputLength);
     }
-    match state_of(c.state) {
+    match State::from(c.state) {
         State::IDLE => requested(c, acceptable, own, peer, t, rb, store, out),
-        State::WFTC => unmoved(c),
-        State::WFAR => unmoved(c),
-        State::DATA => unmoved(c),
-        State::WFAU3 => unmoved(c),
-        State::WFRESP => unmoved(c),
+        _ => unmoved(c),
     }
 }
 
@@ -51,13 +51,9 @@ pub fn respond(c: Connection, out: &mut [u8]) -> Step
     if out.len() < Connection::OUTPUT_LEAST {
         return refuse(c, Refusal::OutputLength);
     }
-    match state_of(c.state) {
-        State::IDLE => unmoved(c),
-        State::WFTC => unmoved(c),
-        State::WFAR => unmoved(c),
-        State::DATA => unmoved(c),
-        State::WFAU3 => unmoved(c),
+    match State::from(c.state) {
         State::WFRESP => send_ar(c, out),
+        _ => unmoved(c),
     }
 }
 
@@ -71,13 +67,9 @@ pub fn send(c: Connection, user: &[u8], out: &mut [u8]) -> Step
     if !between(1, DATA_MOST, user.len()) {
         return refuse(c, Refusal::DataLength);
     }
-    match state_of(c.state) {
-        State::IDLE => unmoved(c),
-        State::WFTC => unmoved(c),
-        State::WFAR => unmoved(c),
+    match State::from(c.state) {
         State::DATA => send_dt(c, user, out),
-        State::WFAU3 => unmoved(c),
-        State::WFRESP => unmoved(c),
+        _ => unmoved(c),
     }
 }
 
@@ -88,13 +80,11 @@ pub fn release(c: Connection, reason: u8, sub: u8, out: &mut [u8]) -> Step
     if out.len() < Connection::OUTPUT_LEAST {
         return refuse(c, Refusal::OutputLength);
     }
-    match state_of(c.state) {
-        State::IDLE => unmoved(c),
+    let why = Code { reason, sub };
+    match State::from(c.state) {
+        State::IDLE | State::WFAU3 => unmoved(c),
         State::WFTC => ended(ToUser::Nothing, ToTransport::TDiscReq),
-        State::WFAR => ended_by_di(c, ToUser::Nothing, reason, sub, out),
-        State::DATA => ended_by_di(c, ToUser::Nothing, reason, sub, out),
-        State::WFAU3 => unmoved(c),
-        State::WFRESP => ended_by_di(c, ToUser::Nothing, reason, sub, out),
+        State::WFAR | State::DATA | State::WFRESP => ended_by_di(c, ToUser::Nothing, why, out),
     }
 }
 
@@ -116,13 +106,9 @@ pub fn indicated(
     if out.len() < Connection::OUTPUT_LEAST {
         return refuse(c, Refusal::OutputLength);
     }
-    match state_of(c.state) {
+    match State::from(c.state) {
         State::IDLE => invited(c, acceptable, own, t, ra, unit, store, out),
-        State::WFTC => unmoved(c),
-        State::WFAR => unmoved(c),
-        State::DATA => unmoved(c),
-        State::WFAU3 => unmoved(c),
-        State::WFRESP => unmoved(c),
+        _ => unmoved(c),
     }
 }
 
@@ -133,13 +119,9 @@ pub fn confirmed(c: Connection, unit: &[u8], out: &mut [u8]) -> Step
     if out.len() < Connection::OUTPUT_LEAST {
         return refuse(c, Refusal::OutputLength);
     }
-    match state_of(c.state) {
-        State::IDLE => unmoved(c),
+    match State::from(c.state) {
         State::WFTC => answered(c, unit, out),
-        State::WFAR => unmoved(c),
-        State::DATA => unmoved(c),
-        State::WFAU3 => unmoved(c),
-        State::WFRESP => unmoved(c),
+        _ => unmoved(c),
     }
 }
 
@@ -150,13 +132,10 @@ pub fn disconnected(c: Connection, reason: u8, unit: &[u8], out: &mut [u8]) -> S
     if out.len() < Connection::OUTPUT_LEAST {
         return refuse(c, Refusal::OutputLength);
     }
-    match state_of(c.state) {
+    match State::from(c.state) {
         State::IDLE => unmoved(c),
-        State::WFTC => lost(reason, unit),
-        State::WFAR => lost(reason, unit),
-        State::DATA => lost(reason, unit),
         State::WFAU3 => ended(ToUser::Nothing, ToTransport::Quiet),
-        State::WFRESP => lost(reason, unit),
+        State::WFTC | State::WFAR | State::DATA | State::WFRESP => lost(reason, unit),
     }
 }
 
@@ -179,11 +158,10 @@ pub fn user_data<'u, 'o>(c: Connection, kind: Kind, unit: &'u [u8], out: &'o [u8
     ensures { result.now ≡ handed_up (step (unit_indication kind unit.now) c out.now).answer unit.now }
 {
     if out.len() < Connection::OUTPUT_LEAST {
-        return &unit[..0];
+        return &[];
     }
     match kind {
-        Kind::Au3 => &unit[..0],
-        Kind::Ar => &unit[..0],
+        Kind::Au3 | Kind::Ar => &[],
         Kind::Dt => data_of(c, unit, out),
     }
 }
@@ -197,16 +175,14 @@ pub fn time_out(c: Connection, out: &mut [u8]) -> Step
     if out.len() < Connection::OUTPUT_LEAST {
         return refuse(c, Refusal::OutputLength);
     }
-    match state_of(c.state) {
-        State::IDLE => unmoved(c),
-        State::WFTC => ended(
-            ToUser::DisconnectIndication(TIME_OUT, NO_AR),
-            ToTransport::TDiscReq,
-        ),
-        State::WFAR => broken(c, TIME_OUT, NO_AR, out),
-        State::DATA => unmoved(c),
-        State::WFAU3 => unmoved(c),
-        State::WFRESP => unmoved(c),
+    let why = Code {
+        reason: TIME_OUT,
+        sub: NO_AR,
+    };
+    match State::from(c.state) {
+        State::WFTC => ended(ToUser::DisconnectIndication(why), ToTransport::TDiscReq),
+        State::WFAR => broken(c, why, out),
+        State::IDLE | State::DATA | State::WFAU3 | State::WFRESP => unmoved(c),
     }
 }
 
@@ -216,28 +192,22 @@ pub fn time_out(c: Connection, out: &mut [u8]) -> Step
 pub fn kind_of(unit: &[u8]) -> Kind
     ensures { result ≡ kind_of unit.now }
 {
-    if unit.len() == 0 {
-        return Kind::Dt;
+    match *unit {
+        [first, ..] if mti(first) == AU3 => Kind::Au3,
+        [first, ..] if mti(first) == AR => Kind::Ar,
+        _ => Kind::Dt,
     }
-    let mti = units::header::mti(unit[0]);
-    if mti == units::header::AU3 {
-        return Kind::Au3;
-    }
-    if mti == units::header::AR {
-        return Kind::Ar;
-    }
-    Kind::Dt
 }
 
-// The same by the number that a host gives; any other is taken as a DT.
+// The same by the number that a host gives; any other is taken as a DT. A function of this crate, in which must-fail/kind_2_is_au3.edit tries it.
 pub fn kind_numbered(n: u8) -> Kind
     ensures { result ≡ kind_numbered n }
 {
-    if n == AU3_NUMBER {
-        return Kind::Au3;
+    if n == Kind::Au3 as u8 {
+        Kind::Au3
+    } else if n == Kind::Ar as u8 {
+        Kind::Ar
+    } else {
+        Kind::Dt
     }
-    if n == AR_NUMBER {
-        return Kind::Ar;
-    }
-    Kind::Dt
 }

@@ -1,5 +1,4 @@
 pub mod InputLaws
 pub mod RowLaws
 pub mod StreamLaws
-pub mod ReportLaws
 pub mod Theorems

@@ -3,6 +3,7 @@
 use mathlib.Core.Path.{◌≡◌, refl, sym, ap, ap₂, ◌∙◌}
 use mathlib.Core.Bool.{Bool, true, false, cond}
 use mathlib.Core.List.{List, [], ◌∷◌, ◌++◌, map, flatten, append_assoc, append-nil}
+use Rattle.std.proofs.Common.{None}
 use Prim.Native.Nat.{ℕ, zero, suc, ◌+◌, ◌≤◌, ◌<◌}
 use native.Mathlib.Numerals.{add-one}
 use native.Mathlib.Omega.{arith}
@@ -10,14 +11,12 @@ use lib.ListN.{length, take, drop, length-take}
 use lib.Seq.{take_all, length-take-le}
 use lib.Dec.{eqb, leb}
 use borrow.Author.Tests.{leb-true, leb-false, le-leb, lt-leb, not-true, not-false}
-use Rattle.lines.specs.Digits.{pick_number}
 use Rattle.lines.specs.Words.{before}
 use Rattle.lines.specs.declared.words.Class.TheVariants.{LineEnd}
 use Rattle.sheet.proofs.InputLaws.{moment_length, name_long, name_short}
 use Rattle.sheet.specs.Input.{moment_of, is_name, last_line, lines_from, lines_of, up_to_end, has_end, behind_end, Fed, fed, after_line, joined}
 use Rattle.sheet.specs.Report.{Line, begun, name_line, line_of, last_of, text_of, after_lines, report_from, report_of}
 use Rattle.sheet.specs.Claims.{played}
-use Rattle.sheet.specs.declared.input.Moment.TheVariants as Moment
 use Rattle.sheet.specs.declared.Report.{Report}
 use Rattle.sheet.specs.declared.Report.TheVariants.{First, Names, Over}
 
@@ -80,10 +79,10 @@ step room held (b ∷ s) h t e = go (λ q. step room (take room (held ++ (b ∷ 
         → fed room (take room (held ++ (b ∷ []))) s
         ≡ cond t (record { lines = []; left = take room (take room (held ++ (b ∷ [])) ++ take (before LineEnd s) s) })
         (after_line (take room (take room (held ++ (b ∷ [])) ++ take (before LineEnd s) s)) (fed room [] (drop (before LineEnd s + 1) s))))
-        → (x : Bool) → eqb b 10 ≡ x → leb (suc (length s)) (pick_number x 0 (suc (before LineEnd s))) ≡ t
+        → (x : Bool) → eqb b 10 ≡ x → leb (suc (length s)) (cond x 0 (suc (before LineEnd s))) ≡ t
         → cond x (after_line held (fed room [] s)) (fed room (take room (held ++ (b ∷ []))) s)
-        ≡ cond t (record { lines = []; left = take room (held ++ take (pick_number x 0 (suc (before LineEnd s))) (b ∷ s)) })
-        (after_line (take room (held ++ take (pick_number x 0 (suc (before LineEnd s))) (b ∷ s))) (fed room [] (drop (pick_number x 0 (suc (before LineEnd s)) + 1) (b ∷ s))))
+        ≡ cond t (record { lines = []; left = take room (held ++ take (cond x 0 (suc (before LineEnd s))) (b ∷ s)) })
+        (after_line (take room (held ++ take (cond x 0 (suc (before LineEnd s))) (b ∷ s))) (fed room [] (drop (cond x 0 (suc (before LineEnd s)) + 1) (b ∷ s))))
     go r true p q = here t q
     go r false p q =
         let k : ℕ = before LineEnd s in
@@ -113,10 +112,10 @@ held-says f c over line = either (f (take 256 line) ≡ f line) (leb (length lin
         sym (over (take 256 line) (omega arith)) ∙ over line (omega arith)
 
 name_same : (line : List ℕ) → is_name (take 256 line) ≡ is_name line
-name_same = held-says is_name false (λ s h. name_long s (λ q. omega arith) h)
+name_same = held-says is_name false name_long
 
 moment_same : (line : List ℕ) → moment_of (take 256 line) ≡ moment_of line
-moment_same = held-says moment_of Moment.Bad (λ s h. moment_length s (λ q. omega arith))
+moment_same = held-says moment_of None (λ s h. moment_length s (λ q. omega arith))
 
 name_whole : (line : List ℕ) → is_name line ≡ true → take 256 line ≡ line
 name_whole line e = take_all 256 line (omega (arith, name_short line e))

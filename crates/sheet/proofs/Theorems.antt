@@ -3,19 +3,14 @@
 use mathlib.Core.Path.{◌≡◌, refl, sym, ap, ◌∙◌, subst}
 use mathlib.Core.Bool.{Bool, true, false, cond}
 use mathlib.Core.List.{List, [], ◌∷◌, ◌++◌, append_assoc}
+use Rattle.std.proofs.Common.{Option, Some, None}
 use Prim.Native.Nat.{ℕ}
 use native.Mathlib.Omega.{arith}
 use Rattle.lines.specs.Digits.{numeral}
 use Rattle.depot.specs.Claims.{AddsUp}
 use Rattle.depot.specs.Counts.{counts_of, sum_of}
 use Rattle.depot.specs.declared.Tally.{Tally}
-use Rattle.depot.specs.declared.Counted.{Counted}
-use Rattle.depot.specs.declared.Counted.TheVariants as CountedAs
-use Rattle.depot.specs.declared.Summed.{Summed}
-use Rattle.depot.specs.declared.Summed.TheVariants as SummedAs
 use Rattle.depot.proofs.Theorems.{classes-add-up, sums-exactly}
-use Rattle.sheet.specs.declared.input.Moment.{Moment}
-use Rattle.sheet.specs.declared.input.Moment.TheVariants as TheMoment
 use Rattle.sheet.specs.declared.Report.{Report}
 use Rattle.sheet.specs.declared.Report.TheVariants.{First, Names, Over}
 use Rattle.sheet.specs.Input.{moment_of, is_name, lines_from}
@@ -83,15 +78,15 @@ sums_in (Names t s) = s
 sums_in Over = zeros
 
 module _ (t : ℕ) (s : Tally) (h : AddsUp s) where
-  after_store : (name : List ℕ) (c : Tally) → AddsUp c → (z : Summed) → sum_of s c ≡ z → AddsUp (sums_in (store_line t name c z).report)
+  after_store : (name : List ℕ) (c : Tally) → AddsUp c → (z : Option Tally) → sum_of s c ≡ z → AddsUp (sums_in (store_line t name c z).report)
   unfolding sums_in
-  after_store name c k (SummedAs.Sums u) e = subst AddsUp (sym (sums-exactly.only s c u e).1) (omega arith)
-  after_store name c k SummedAs.TooLarge e = refl
+  after_store name c k (Some u) e = subst AddsUp (sym (sums-exactly.only s c u e).1) (omega arith)
+  after_store name c k None e = refl
 
-  after_file : (name file : List ℕ) (z : Counted) → counts_of file t ≡ z → AddsUp (sums_in (file_line t s name z).report)
+  after_file : (name file : List ℕ) (z : Option Tally) → counts_of file t ≡ z → AddsUp (sums_in (file_line t s name z).report)
   unfolding sums_in
-  after_file name file (CountedAs.Counts c) e = after_store name c (classes-add-up.of_store file t c e) (sum_of s c) refl
-  after_file name file CountedAs.Bad e = h
+  after_file name file (Some c) e = after_store name c (classes-add-up.of_store file t c e) (sum_of s c) refl
+  after_file name file None e = h
 
   after_name : (line file : List ℕ) → AddsUp (sums_in (name_line t s line file).report)
   unfolding sums_in
@@ -101,10 +96,10 @@ module _ (t : ℕ) (s : Tally) (h : AddsUp s) where
       go true = after_file line file (counts_of file t) refl
       go false = h
 
-after_moment : (m : Moment) → AddsUp (sums_in (begun m).report)
+after_moment : (m : Option ℕ) → AddsUp (sums_in (begun m).report)
 unfolding sums_in
-after_moment (TheMoment.At t) = refl
-after_moment TheMoment.Bad = refl
+after_moment (Some t) = refl
+after_moment None = refl
 
 after_line_lem : (r : Report) (line file : List ℕ) → AddsUp (sums_in r) → AddsUp (sums_in (line_of r line file).report)
 unfolding line_of sums_in

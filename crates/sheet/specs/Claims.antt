@@ -1,14 +1,12 @@
 -- What is claimed of the report beside the contracts. proofs/Theorems.antt has a proof of each claim.
 -- Assumes nothing.
-use Rattle.std.specs.Prelude.{◌≡◌, true, false, ℕ, ◌≤◌, length, take}
+use Rattle.std.specs.Prelude.{◌≡◌, true, false, Some, None, ℕ, ◌≤◌, length, take}
 use mathlib.Core.List.{List, [], ◌∷◌, ◌++◌, flatten}
 use Rattle.io.specs.Digits.{IsDigitCount}
 use Rattle.lines.specs.Digits.{are_digits, numeral}
 use Rattle.depot.specs.Claims.{AddsUp, Within}
 use Rattle.depot.specs.Counts.{counts_of, sums, largest}
 use Rattle.depot.specs.declared.Tally.{Tally}
-use Rattle.depot.specs.declared.Counted.TheVariants as CountedAs
-use Rattle.sheet.specs.declared.input.Moment.TheVariants as Moment
 use Rattle.sheet.specs.declared.Report.{Report}
 use Rattle.sheet.specs.declared.Report.TheVariants.{First, Names, Over}
 use Rattle.sheet.specs.Input.{moment_of, is_name, last_line, up_to_end, has_end, behind_end, fed, after_line}
@@ -19,9 +17,9 @@ use Rattle.sheet.specs.Report.{zeros, line_of, text_of, after_lines, report_from
 
 -- a moment is exactly eight hex digits, and T is their value
 pub record MomentsExactly : Type 0 where
-  pub given : (line : List ℕ) → length line ≡ 8 → are_digits 16 line ≡ true → moment_of line ≡ Moment.At (numeral 16 0 line)
-  pub other_length : (line : List ℕ) → (length line ≡ 8 → ⊥) → moment_of line ≡ Moment.Bad
-  pub no_digits : (line : List ℕ) → length line ≡ 8 → are_digits 16 line ≡ false → moment_of line ≡ Moment.Bad
+  pub given : (line : List ℕ) → length line ≡ 8 → are_digits 16 line ≡ true → moment_of line ≡ Some (numeral 16 0 line)
+  pub other_length : (line : List ℕ) → (length line ≡ 8 → ⊥) → moment_of line ≡ None
+  pub no_digits : (line : List ℕ) → length line ≡ 8 → are_digits 16 line ≡ false → moment_of line ≡ None
 
 -- ---- each line, in the request's words
 
@@ -31,15 +29,15 @@ Gives r line file text r' = line_of r line file ≡ record { text = text; report
 
 pub record EachLine : Type 0 where
   -- the first line
-  pub begins : (line file : List ℕ) (t : ℕ) → moment_of line ≡ Moment.At t → Gives First line file heading (Names t zeros)
-  pub no_moment : (line file : List ℕ) → moment_of line ≡ Moment.Bad → Gives First line file bad_moment Over
+  pub begins : (line file : List ℕ) (t : ℕ) → moment_of line ≡ Some t → Gives First line file heading (Names t zeros)
+  pub no_moment : (line file : List ℕ) → moment_of line ≡ None → Gives First line file bad_moment Over
   -- a name line
   pub no_name : (t : ℕ) (s : Tally) (line file : List ℕ) → is_name line ≡ false → Gives (Names t s) line file bad (Names t s)
-  pub bad_file : (t : ℕ) (s : Tally) (line file : List ℕ) → is_name line ≡ true → counts_of file t ≡ CountedAs.Bad
+  pub bad_file : (t : ℕ) (s : Tally) (line file : List ℕ) → is_name line ≡ true → counts_of file t ≡ None
       → Gives (Names t s) line file (bad_row line) (Names t s)
-  pub store : (t : ℕ) (s : Tally) (line file : List ℕ) (c : Tally) → is_name line ≡ true → counts_of file t ≡ CountedAs.Counts c → Within s c
+  pub store : (t : ℕ) (s : Tally) (line file : List ℕ) (c : Tally) → is_name line ≡ true → counts_of file t ≡ Some c → Within s c
       → Gives (Names t s) line file (row line c) (Names t (sums s c))
-  pub too_large : (t : ℕ) (s : Tally) (line file : List ℕ) (c : Tally) → is_name line ≡ true → counts_of file t ≡ CountedAs.Counts c → (Within s c → ⊥)
+  pub too_large : (t : ℕ) (s : Tally) (line file : List ℕ) (c : Tally) → is_name line ≡ true → counts_of file t ≡ Some c → (Within s c → ⊥)
       → Gives (Names t s) line file sum_too_large Over
 
 -- the whole output: what each line gives, one after the other, and what stands at the end. So `bad moment` alone without a moment, the heading and the
@@ -48,8 +46,8 @@ pub record WholeReport : Type 0 where
   pub next : (file : List ℕ → List ℕ) (r r' : Report) (line text : List ℕ) (ls : List (List ℕ)) → Gives r line (file line) text r'
       → report_from file r (line ∷ ls) ≡ text ++ report_from file r' ls
   pub no_line : (file : List ℕ → List ℕ) → report_of file [] ≡ bad_moment
-  pub no_moment : (file : List ℕ → List ℕ) (line : List ℕ) (ls : List (List ℕ)) → moment_of line ≡ Moment.Bad → report_from file First (line ∷ ls) ≡ bad_moment
-  pub begins : (file : List ℕ → List ℕ) (line : List ℕ) (ls : List (List ℕ)) (t : ℕ) → moment_of line ≡ Moment.At t
+  pub no_moment : (file : List ℕ → List ℕ) (line : List ℕ) (ls : List (List ℕ)) → moment_of line ≡ None → report_from file First (line ∷ ls) ≡ bad_moment
+  pub begins : (file : List ℕ → List ℕ) (line : List ℕ) (ls : List (List ℕ)) (t : ℕ) → moment_of line ≡ Some t
       → report_from file First (line ∷ ls) ≡ heading ++ report_from file (Names t zeros) ls
   pub ends : (file : List ℕ → List ℕ) (t : ℕ) (s : Tally) → report_from file (Names t s) [] ≡ sum_row s
   pub over : (file : List ℕ → List ℕ) (ls : List (List ℕ)) → report_from file Over ls ≡ []

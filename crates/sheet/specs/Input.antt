@@ -1,11 +1,10 @@
 -- The input of the report (change request 14): its lines, the moment, and the names of files.
 -- Assumes nothing.
-use Rattle.std.specs.Prelude.{◌≡◌, Bool, false, ◌&&◌, ◌||◌, not, cond, List, [], ◌∷◌, ◌++◌, ℕ, ◌+◌, ◌≤◌, ◌<◌, length, take, drop, eqb, leb}
+use Rattle.std.specs.Prelude.{◌≡◌, Bool, ◌&&◌, not, cond, Option, Some, None, List, [], ◌∷◌, ◌++◌, ℕ, ◌+◌, ◌≤◌, ◌<◌, length, take, drop, eqb, leb}
+use Rattle.std.specs.List.{list_any}
 use Rattle.lines.specs.Digits.{are_digits, numeral}
 use Rattle.lines.specs.Words.{before}
 use Rattle.lines.specs.declared.words.Class.TheVariants.{LineEnd}
-use Rattle.sheet.specs.declared.input.Moment.{Moment}
-use Rattle.sheet.specs.declared.input.Moment.TheVariants as TheMoment
 use Rattle.sheet.specs.declared.input.Cut.{Cut}
 
 -- ---- lines
@@ -26,14 +25,13 @@ lines_of input = lines_from [] input
 -- ---- the moment
 
 -- "T as eight hex digits of either case"
-unfoldable pub moment_of : List ℕ → Moment
-moment_of line = cond (eqb (length line) 8 && are_digits 16 line) (TheMoment.At (numeral 16 0 line)) TheMoment.Bad
+unfoldable pub moment_of : List ℕ → Option ℕ
+moment_of line = cond (eqb (length line) 8 && are_digits 16 line) (Some (numeral 16 0 line)) None
 
 -- ---- names
 
 unfoldable pub has_zero : List ℕ → Bool
-has_zero [] = false
-has_zero (b ∷ bs) = eqb b 0 || has_zero bs
+has_zero line = list_any (λ b. eqb b 0) line
 
 -- "a name line that is empty, over 255 bytes or holds a zero byte" is none
 unfoldable pub is_name : List ℕ → Bool
@@ -51,14 +49,13 @@ has_end s = not (leb (length s) (before LineEnd s))
 abbrev pub behind_end : List ℕ → List ℕ
 behind_end s = drop (before LineEnd s + 1) s
 
--- what `take_line` promises: `line` holds so many bytes of a line; the chunk's bytes from `at` up to a line end follow, as many as there is room for
-pub record TakesLine (line : List ℕ) (filled : ℕ) (chunk : List ℕ) (at : ℕ) (line' : List ℕ) (r : Cut) : Type 0 where
-  pub kept : take r.filled line' ≡ take (length line) (take filled line ++ up_to_end (drop at chunk))
-  pub ended_is : r.ended ≡ has_end (drop at chunk)
-  pub rest : drop r.at chunk ≡ behind_end (drop at chunk)
-  pub filled_fits : r.filled ≤ length line
-  pub at_fits : r.at ≤ length chunk
-  pub moves : at < length chunk → at < r.at
+-- what `take_line` promises: `line` is held of a line; the chunk's bytes up to a line end follow, as many as there is room for with `most` in all
+pub record TakesLine (most : ℕ) (line chunk line' : List ℕ) (r : Cut) : Type 0 where
+  pub kept : line' ≡ take most (line ++ up_to_end chunk)
+  pub ended_is : r.ended ≡ has_end chunk
+  pub rest : drop r.taken chunk ≡ behind_end chunk
+  pub taken_fits : r.taken ≤ length chunk
+  pub moves : 0 < length chunk → 0 < r.taken
 
 -- the lines that ended, and what is held of the one that has not
 pub record Fed : Type 0 where

@@ -1,15 +1,8 @@
 -- The report (change request 14): what is written of each line of the input, and at its end.
 -- Assumes nothing.
-use Rattle.std.specs.Prelude.{Bool, false, cond, List, [], ◌∷◌, ◌++◌, ℕ, ◌≤◌, ◌≡◌, length}
-use Rattle.lines.specs.Digits.{Puts}
+use Rattle.std.specs.Prelude.{Bool, false, cond, Option, Some, None, List, [], ◌∷◌, ◌++◌, ℕ, ◌≤◌, ◌≡◌, length}
 use Rattle.depot.specs.Counts.{counts_of, sum_of}
 use Rattle.depot.specs.declared.Tally.{Tally}
-use Rattle.depot.specs.declared.Counted.{Counted}
-use Rattle.depot.specs.declared.Counted.TheVariants as CountedAs
-use Rattle.depot.specs.declared.Summed.{Summed}
-use Rattle.depot.specs.declared.Summed.TheVariants as SummedAs
-use Rattle.sheet.specs.declared.input.Moment.{Moment}
-use Rattle.sheet.specs.declared.input.Moment.TheVariants as TheMoment
 use Rattle.sheet.specs.declared.Report.{Report}
 use Rattle.sheet.specs.declared.Report.TheVariants.{First, Names, Over}
 use Rattle.sheet.specs.declared.Written.{Written}
@@ -22,24 +15,24 @@ pub record Line : Type 0 where
   pub report : Report
 
 abbrev pub zeros : Tally
-zeros = record { held = 0; fit = 0; ended = 0; early = 0; reversed = 0; peers = 0 }
+zeros = record { held = 0; classes = record { fit = 0; ended = 0; early = 0; reversed = 0 }; peers = 0 }
 
 -- ---- a line of the input
 
 -- the first: the heading, or `bad moment` and nothing more
-abbrev pub begun : Moment → Line
-begun (TheMoment.At t) = record { text = heading; report = Names t zeros }
-begun TheMoment.Bad = record { text = bad_moment; report = Over }
+abbrev pub begun : Option ℕ → Line
+begun (Some t) = record { text = heading; report = Names t zeros }
+begun None = record { text = bad_moment; report = Over }
 
 -- a store with the counts c: its row and the new sums; `sum too large` in place of the row ends the report
-abbrev pub store_line : ℕ → List ℕ → Tally → Summed → Line
-store_line t name c (SummedAs.Sums s) = record { text = row name c; report = Names t s }
-store_line t name c SummedAs.TooLarge = record { text = sum_too_large; report = Over }
+abbrev pub store_line : ℕ → List ℕ → Tally → Option Tally → Line
+store_line t name c (Some s) = record { text = row name c; report = Names t s }
+store_line t name c None = record { text = sum_too_large; report = Over }
 
 -- a file: a store, or `NAME bad`, which adds nothing
-abbrev pub file_line : ℕ → Tally → List ℕ → Counted → Line
-file_line t sums name (CountedAs.Counts c) = store_line t name c (sum_of sums c)
-file_line t sums name CountedAs.Bad = record { text = bad_row name; report = Names t sums }
+abbrev pub file_line : ℕ → Tally → List ℕ → Option Tally → Line
+file_line t sums name (Some c) = store_line t name c (sum_of sums c)
+file_line t sums name None = record { text = bad_row name; report = Names t sums }
 
 -- a name line, with the bytes of the file that it names; `bad` alone where it is no name
 abbrev pub name_line : ℕ → Tally → List ℕ → List ℕ → Line
@@ -88,7 +81,7 @@ asks_file Over line = false
 abbrev pub ShortName : List ℕ → Type 0
 ShortName name = length name ≤ 255
 
--- a line of the report is at the front of `out`
-pub record PutsLine (l : Line) (out out' : List ℕ) (w : Written) : Type 0 where
-  pub text : Puts l.text out out' w.count
+-- a line of the report is what is written
+pub record PutsLine (l : Line) (w : Written) : Type 0 where
+  pub text : w.text.items ≡ l.text
   pub report : w.report ≡ l.report

@@ -28,7 +28,7 @@ fields (n ∷ ns) = field n ++ fields ns
 
 -- held, fit, ended, early, reversed, peers: the order of the heading
 abbrev pub numbers_of : Tally → List ℕ
-numbers_of c = c.held ∷ c.fit ∷ c.ended ∷ c.early ∷ c.reversed ∷ c.peers ∷ []
+numbers_of c = c.held ∷ c.classes.fit ∷ c.classes.ended ∷ c.classes.early ∷ c.classes.reversed ∷ c.peers ∷ []
 
 -- ---- lines
 

@@ -1,22 +1,15 @@
 // The input of the report: lines cut out of a stream, the moment, and names of files.
-ghost use Rattle.std.specs.Prelude.{◌≡◌, ◌≤◌, length};
-ghost use Rattle.sheet.specs.Input.{moment_of, is_name, has_zero, TakesLine};
+ghost use Rattle.std.specs.Prelude.{◌≡◌};
+ghost use Rattle.sheet.specs.Input.{moment_of, is_name, TakesLine};
 
-use lines::digits::{are_digits, least, number};
+use arrayvec::ArrayVec;
+use lines::digits::{are_digits, number};
 use lines::words::{Class, first};
 
-// What the first line says.
-#[derive(Clone, Copy)]
-pub enum Moment {
-    At(u32),
-    Bad,
-}
-
-// Where a chunk is read on, how much of the line is held, and whether the line has ended.
+// How many bytes of a chunk are taken, and whether the line has ended. No Option: the definition TakesLine names both, and the caller goes on behind what is taken in either case.
 #[derive(Clone, Copy)]
 pub struct Cut {
-    pub at: usize,
-    pub filled: usize,
+    pub taken: usize,
     pub ended: bool,
 }
 
@@ -29,63 +22,40 @@ const MOMENT_DIGITS: usize = 8;
 pub const LINE: usize = NAME_MOST + 1;
 
 // The moment that a line says.
-pub fn read_moment(line: &[u8]) -> Moment
+pub fn read_moment(line: &[u8]) -> Option<u32>
     ensures { result ≡ moment_of line.now }
 {
-    if line.len() != MOMENT_DIGITS {
-        return Moment::Bad;
+    if line.len() != MOMENT_DIGITS || !are_digits(line, 16) {
+        return None;
     }
-    if !are_digits(line, 16) {
-        return Moment::Bad;
-    }
-    Moment::At(number(line, 16) as u32)
-}
-
-// Whether one of the bytes is zero.
-fn has_zero(line: &[u8]) -> bool
-    ensures { result ≡ has_zero line.now }
-{
-    let mut i = 0;
-    while i < line.len() {
-        if line[i] == 0 {
-            return true;
-        }
-        i += 1;
-    }
-    false
+    Some(number(line, 16) as u32)
 }
 
 // Whether a line can be the name of a file: 1 to 255 bytes, none of them zero.
 pub fn is_name(line: &[u8]) -> bool
     ensures { result ≡ is_name line.now }
 {
-    if line.len() == 0 {
+    if line.is_empty() || line.len() > NAME_MOST {
         return false;
     }
-    if line.len() > NAME_MOST {
-        return false;
-    }
-    !has_zero(line)
+    !line.contains(&0)
 }
 
-// Takes the bytes of a chunk from index at up to a line end, or all of them, to the end of the line that is held; what has no room is left out.
-pub fn take_line(line: &mut [u8], filled: usize, chunk: &[u8], at: usize) -> Cut
-    requires { (filled ≤ length line.old) × (at ≤ length chunk.now) }
-    ensures { TakesLine line.old filled chunk.now at line.new result }
+// Takes the bytes of a chunk up to a line end, or all of them, to the end of the line that is held; what has no room is left out.
+pub fn take_line<const N: usize>(line: &mut ArrayVec<u8, N>, chunk: &[u8]) -> Cut
+    ensures { TakesLine N line.old.items chunk.now line.new.items result }
 {
-    let end = first(Class::LineEnd, chunk, at);
-    let k = least(end - at, line.len() - filled);
-    octets::copy(line, filled, chunk, at, k);
+    let end = first(Class::LineEnd, chunk, 0);
+    let k = end.min(line.remaining_capacity());
+    line.try_extend_from_slice(&chunk[..k]).unwrap();
     if end < chunk.len() {
         return Cut {
-            at: end + 1,
-            filled: filled + k,
+            taken: end + 1,
             ended: true,
         };
     }
     Cut {
-        at: end,
-        filled: filled + k,
+        taken: end,
         ended: false,
     }
 }

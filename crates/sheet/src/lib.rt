@@ -4,16 +4,15 @@
 pub mod input;
 mod row;
 
-ghost use Rattle.std.specs.Prelude.{◌≡◌, ◌≤◌, length};
-ghost use Rattle.lines.specs.Digits.{Puts};
+ghost use Rattle.std.specs.Prelude.{◌≡◌};
+ghost use Rattle.sheet.specs.Report.{begun, file_line, line_of, last_of, asks_file, ShortName, PutsLine};
 ghost use Rattle.sheet.specs.Input.{moment_of};
-ghost use Rattle.sheet.specs.Row.{longest};
-ghost use Rattle.sheet.specs.Report.{begun, store_line, file_line, name_line, line_of, last_of, asks_file, ShortName, PutsLine};
-ghost use Rattle.depot.specs.Counts.{counts_of, sum_of};
+ghost use Rattle.depot.specs.Counts.{counts_of};
 
-use depot::{Counted, Summed, Tally, added, counts};
-use input::{Moment, is_name, read_moment};
-use row::{put_bad, put_row, put_text};
+use arrayvec::ArrayVec;
+use depot::{Tally, added, counts};
+use input::{is_name, read_moment};
+use row::{row, text};
 
 // The report so far: the first line comes next; or names do, at T and with these sums; or nothing more is written.
 #[derive(Clone, Copy)]
@@ -23,124 +22,100 @@ pub enum Report {
     Over,
 }
 
-// How many bytes are written, and the report then.
-#[derive(Clone, Copy)]
-pub struct Written {
-    pub count: usize,
-    pub report: Report,
-}
-
 // The longest line: a name of 255 bytes, six numbers of ten digits with a space before each, and the line end.
 pub const ROW: usize = 322;
 
-// The sums of no file.
-const ZEROS: Tally = Tally {
-    held: 0,
-    fit: 0,
-    ended: 0,
-    early: 0,
-    reversed: 0,
-    peers: 0,
-};
+// What is written: a line with its line end, or nothing.
+pub type Text = ArrayVec<u8, ROW>;
 
-// Whether the bytes of the file that a line names are wanted.
-pub fn asks_file(report: Report, line: &[u8]) -> bool
-    ensures { result ≡ asks_file report line.now }
-{
-    match report {
-        Report::First => false,
-        Report::Names(_, _) => is_name(line),
-        Report::Over => false,
-    }
+// What is written of a line of the input, and the report then.
+pub struct Written {
+    pub text: Text,
+    pub report: Report,
 }
 
 // The first line of the input.
-fn put_first(out: &mut [u8], line: &[u8]) -> Written
-    requires { longest ≤ length out.old }
-    ensures { PutsLine (begun (moment_of line.now)) out.old out.new result }
+fn begun(line: &[u8]) -> Written
+    ensures { PutsLine (begun (moment_of line.now)) result }
 {
     match read_moment(line) {
-        Moment::At(t) => Written {
-            count: put_text(out, b"file held fit ended early reversed peers\n"),
-            report: Report::Names(t, ZEROS),
+        Some(t) => Written {
+            text: text(b"file held fit ended early reversed peers\n"),
+            report: Report::Names(t, Tally::default()),
         },
-        Moment::Bad => Written {
-            count: put_text(out, b"bad moment\n"),
-            report: Report::Over,
-        },
-    }
-}
-
-// A file that is a store with the counts c.
-fn put_store(out: &mut [u8], t: u32, sums: Tally, name: &[u8], c: Tally) -> Written
-    requires longest_in_bounds { longest ≤ length out.old }
-    requires short_name { ShortName name.now }
-    ensures { PutsLine (store_line t name.now c (sum_of sums c)) out.old out.new result }
-{
-    match added(sums, c) {
-        Summed::Sums(s) => Written {
-            count: put_row(out, name, c),
-            report: Report::Names(t, s),
-        },
-        Summed::TooLarge => Written {
-            count: put_text(out, b"sum too large\n"),
+        None => Written {
+            text: text(b"bad moment\n"),
             report: Report::Over,
         },
     }
 }
 
 // A file with these bytes.
-fn put_file(out: &mut [u8], t: u32, sums: Tally, name: &[u8], file: &[u8]) -> Written
-    requires longest_in_bounds { longest ≤ length out.old }
-    requires short_name { ShortName name.now }
-    ensures { PutsLine (file_line t sums name.now (counts_of file.now t)) out.old out.new result }
+#[tactic(auto, unfolding(crate::specs::Row::bad_row))]
+fn file_line(t: u32, sums: Tally, name: &[u8], file: &[u8]) -> Written
+    requires { ShortName name.now }
+    ensures { PutsLine (file_line t sums name.now (counts_of file.now t)) result }
 {
-    match counts(file, t) {
-        Counted::Counts(c) => put_store(out, t, sums, name, c),
-        Counted::Bad => Written {
-            count: put_bad(out, name),
+    let Some(c) = counts(file, t) else {
+        let mut bad = text(name);
+        bad.try_extend_from_slice(b" bad\n").unwrap();
+        return Written {
+            text: bad,
             report: Report::Names(t, sums),
+        };
+    };
+    match added(sums, c) {
+        Some(s) => Written {
+            text: row(name, c),
+            report: Report::Names(t, s),
         },
-    }
-}
-
-// A line where a name is due.
-fn put_name(out: &mut [u8], t: u32, sums: Tally, line: &[u8], file: &[u8]) -> Written
-    requires { longest ≤ length out.old }
-    ensures { PutsLine (name_line t sums line.now file.now) out.old out.new result }
-{
-    if is_name(line) {
-        return put_file(out, t, sums, line, file);
-    }
-    Written {
-        count: put_text(out, b"bad\n"),
-        report: Report::Names(t, sums),
-    }
-}
-
-// Writes what the report says of a line of the input to the front of out. `file` is what the file that it names holds, and nothing where it can't be read.
-pub fn put_line(out: &mut [u8], report: Report, line: &[u8], file: &[u8]) -> Written
-    requires { longest ≤ length out.old }
-    ensures { PutsLine (line_of report line.now file.now) out.old out.new result }
-{
-    match report {
-        Report::First => put_first(out, line),
-        Report::Names(t, sums) => put_name(out, t, sums, line, file),
-        Report::Over => Written {
-            count: 0,
+        None => Written {
+            text: text(b"sum too large\n"),
             report: Report::Over,
         },
     }
 }
 
-// Writes what the report says at the end of the input to the front of out, and answers its length.
-pub fn put_last(out: &mut [u8], report: Report) -> usize
-    requires { longest ≤ length out.old }
-    ensures { Puts (last_of report) out.old out.new result }
-{
-    match report {
-        Report::First => put_text(out, b"bad moment\n"),
-        Report::Names(_, sums) => put_row(out, b"sum", sums),
-        Report::Over => 0,
+impl Report {
+    // Whether the bytes of the file that a line names are wanted.
+    pub fn asks_file(self, line: &[u8]) -> bool
+        ensures { result ≡ asks_file self line.now }
+    {
+        match self {
+            Report::First => false,
+            Report::Names(_, _) => is_name(line),
+            Report::Over => false,
+        }
+    }
+
+    // What is written of a line of the input. `file` is what the file that it names holds, and nothing where it can't be read.
+    #[tactic(auto, using(crate::proofs::InputLaws::name_short), unfolding(crate::specs::Report::line_of))]
+    pub fn line_of(self, line: &[u8], file: &[u8]) -> Written
+        ensures { PutsLine (line_of self line.now file.now) result }
+    {
+        match self {
+            Report::First => begun(line),
+            Report::Names(t, sums) if is_name(line) => file_line(t, sums, line, file),
+            Report::Names(_, _) => Written {
+                text: text(b"bad\n"),
+                report: self,
+            },
+            Report::Over => Written {
+                text: Text::new(),
+                report: self,
+            },
+        }
+    }
+
+    // What is written at the end of the input.
+    #[tactic(auto, unfolding(crate::specs::Report::last_of))]
+    pub fn last_of(self) -> Text
+        ensures { result.items ≡ last_of self }
+    {
+        match self {
+            Report::First => text(b"bad moment\n"),
+            Report::Names(_, sums) => row(b"sum", sums),
+            Report::Over => Text::new(),
+        }
     }
 }

@@ -7,21 +7,14 @@ ghost use Rattle.table.specs.Table.{state_of};
 ghost use Rattle.table.specs.Steps.{replayed, handed_up, Does, step, unit_indication};
 ghost use Rattle.table.specs.Parts.{unawaited};
 
-use authentication::Checked;
-use refusal::{Refusal, house_number};
+use refusal::Refusal;
 use table::ends::{acting, broken, ended, ended_by_di, unmoved};
-use table::states::{entering, state_of};
 use table::{Connection, Kind, State, Step, Timer, ToTransport, ToUser};
 use units::reason::{
     AUTHENTICATION, LENGTH, LENGTH_OF_DT, MAC, MAC_OF_DT, NOT_AR, NOT_AU2, NOT_AU3, REPLAY,
     SEQUENCE, UNKNOWN,
 };
-use units::{Code, Fault, etcs_id};
-
-// H8 is Pre5. Of Pre6, H9 has reasons of its own, and H7 has one.
-const MAC_DIFFERS: u8 = 8;
-
-const UNIT_CONTENTS: u8 = 9;
+use units::{Code, etcs_id};
 
 // ---- in a state that does not wait for the unit
 
@@ -29,11 +22,7 @@ fn replayed(kind: Kind) -> Code
     ensures { result ≡ replayed kind }
 {
     match kind {
-        Kind::Au3 => Code {
-            reason: REPLAY,
-            sub: AUTHENTICATION,
-        },
-        Kind::Ar => Code {
+        Kind::Au3 | Kind::Ar => Code {
             reason: REPLAY,
             sub: AUTHENTICATION,
         },
@@ -44,22 +33,30 @@ fn replayed(kind: Kind) -> Code
     }
 }
 
+// Another unit than the AU2, AU3 or AR that is due.
+fn not_due(sub: u8) -> Code
+    ensures { result ≡ code 9 sub }
+{
+    Code {
+        reason: SEQUENCE,
+        sub,
+    }
+}
+
 // The treatment of protocol errors.
 fn out_of_sequence(c: Connection, kind: Kind, out: &mut [u8]) -> Step
     requires { 1032 ≤ length out.old }
     ensures { Does (unawaited kind (state_of c.state) c out.old) result.answer result.connection out.new }
 {
-    let code = replayed(kind);
-    match state_of(c.state) {
+    match State::from(c.state) {
         State::IDLE => unmoved(c),
         State::WFTC => ended(
-            ToUser::DisconnectIndication(SEQUENCE, NOT_AU2),
+            ToUser::DisconnectIndication(not_due(NOT_AU2)),
             ToTransport::TDiscReq,
         ),
-        State::WFAR => broken(c, SEQUENCE, NOT_AR, out),
-        State::DATA => broken(c, code.reason, code.sub, out),
-        State::WFAU3 => ended_by_di(c, ToUser::Nothing, SEQUENCE, NOT_AU3, out),
-        State::WFRESP => broken(c, code.reason, code.sub, out),
+        State::WFAR => broken(c, not_due(NOT_AR), out),
+        State::WFAU3 => ended_by_di(c, ToUser::Nothing, not_due(NOT_AU3), out),
+        State::DATA | State::WFRESP => broken(c, replayed(kind), out),
     }
 }
 
@@ -70,29 +67,28 @@ fn judge_au3(c: Connection, unit: &[u8], out: &mut [u8]) -> Step
     requires { (state_of c.state ≡ State.WFAU3) × (1032 ≤ length out.old) }
     ensures { Does (step (unit_indication Kind.Au3 unit.now) c out.old) result.answer result.connection out.new }
 {
-    let key = c.key;
-    let ra = c.ra;
-    let rb = c.rb;
-    match units::au3_fault(key, c.own, ra, rb, unit) {
-        Fault::Fine => acting(
-            entering(c, Connection::WFRESP),
+    match units::au3_fault(c.key, c.own, c.ra, c.rb, unit) {
+        Ok(()) => acting(
+            c.entering(Connection::WFRESP),
             ToUser::ConnectIndication,
             ToTransport::Quiet,
             Timer::Keep,
             0,
         ),
-        Fault::Bad(reason, sub) => ended_by_di(c, ToUser::Nothing, reason, sub, out),
+        Err(why) => ended_by_di(c, ToUser::Nothing, why, out),
     }
 }
 
+// Each square asks for its state in a function of its own: one for the three would take the square as a closure, whose contract says the event's own once more.
 pub fn take_au3(c: Connection, unit: &[u8], out: &mut [u8]) -> Step
     requires { 1032 ≤ length out.old }
     ensures { Does (step (unit_indication Kind.Au3 unit.now) c out.old) result.answer result.connection out.new }
 {
     if c.state == Connection::WFAU3 {
-        return judge_au3(c, unit, out);
+        judge_au3(c, unit, out)
+    } else {
+        out_of_sequence(c, Kind::Au3, out)
     }
-    out_of_sequence(c, Kind::Au3, out)
 }
 
 // AR in WFAR.
@@ -100,16 +96,15 @@ fn judge_ar(c: Connection, unit: &[u8], out: &mut [u8]) -> Step
     requires { (state_of c.state ≡ State.WFAR) × (1032 ≤ length out.old) }
     ensures { Does (step (unit_indication Kind.Ar unit.now) c out.old) result.answer result.connection out.new }
 {
-    let key = c.key;
-    match units::ar_fault(key, c.own, unit) {
-        Fault::Fine => acting(
-            entering(c, Connection::DATA),
+    match units::ar_fault(c.key, c.own, unit) {
+        Ok(()) => acting(
+            c.entering(Connection::DATA),
             ToUser::ConnectConfirmation,
             ToTransport::Quiet,
             Timer::Stop,
             0,
         ),
-        Fault::Bad(reason, sub) => broken(c, reason, sub, out),
+        Err(why) => broken(c, why, out),
     }
 }
 
@@ -118,43 +113,42 @@ pub fn take_ar(c: Connection, unit: &[u8], out: &mut [u8]) -> Step
     ensures { Does (step (unit_indication Kind.Ar unit.now) c out.old) result.answer result.connection out.new }
 {
     if c.state == Connection::WFAR {
-        return judge_ar(c, unit, out);
+        judge_ar(c, unit, out)
+    } else {
+        out_of_sequence(c, Kind::Ar, out)
     }
-    out_of_sequence(c, Kind::Ar, out)
 }
 
 // ---- DT
 
-// What is wrong with a DT whose MAC is right, or whose length is wrong.
-fn fault_code(n: u8, responder: bool, unit: &[u8]) -> Code
-    ensures { result ≡ cond (eqb n 9) (contents_code responder unit.now) (code 10 5) }
-{
-    if n == UNIT_CONTENTS {
-        return units::contents_code(responder, unit);
-    }
-    Code {
-        reason: LENGTH,
-        sub: LENGTH_OF_DT,
-    }
-}
-
-// A DT that check refuses, in DATA.
+// A DT that check refuses, in DATA. H8 is Pre5; of Pre6, H9 has reasons of its own, and H7 has one.
 fn refuse_dt(c: Connection, h: Refusal, unit: &[u8], out: &mut [u8]) -> Step
     requires { (state_of c.state ≡ State.DATA) × ((1032 ≤ length out.old) × (checked unit.now c.key (etcs_id c.own) (not c.responder) ≡ house (house_number h))) }
     ensures { Does (step (unit_indication Kind.Dt unit.now) c out.old) result.answer result.connection out.new }
 {
-    let n = house_number(h);
-    if n == MAC_DIFFERS {
-        return acting(
-            entering(c, Connection::DATA),
-            ToUser::ReportIndication(MAC, MAC_OF_DT),
-            ToTransport::Quiet,
-            Timer::Keep,
-            0,
-        );
+    match h {
+        Refusal::MacDiffers => {
+            let why = Code {
+                reason: MAC,
+                sub: MAC_OF_DT,
+            };
+            acting(
+                c.entering(Connection::DATA),
+                ToUser::ReportIndication(why),
+                ToTransport::Quiet,
+                Timer::Keep,
+                0,
+            )
+        }
+        Refusal::UnitContents => broken(c, units::contents_code(c.responder, unit), out),
+        _ => {
+            let why = Code {
+                reason: LENGTH,
+                sub: LENGTH_OF_DT,
+            };
+            broken(c, why, out)
+        }
     }
-    let code = fault_code(n, c.responder, unit);
-    broken(c, code.reason, code.sub, out)
 }
 
 // DT in DATA.
@@ -162,16 +156,15 @@ fn judge_dt(c: Connection, unit: &[u8], out: &mut [u8]) -> Step
     requires { (state_of c.state ≡ State.DATA) × (1032 ≤ length out.old) }
     ensures { Does (step (unit_indication Kind.Dt unit.now) c out.old) result.answer result.connection out.new }
 {
-    let key = c.key;
-    match authentication::check(unit, &key, etcs_id(c.own), !c.responder) {
-        Checked::Accepted(n) => acting(
-            entering(c, Connection::DATA),
+    match authentication::check(unit, &c.key, etcs_id(c.own), !c.responder) {
+        Ok(n) => acting(
+            c.entering(Connection::DATA),
             ToUser::DataIndication(n),
             ToTransport::Quiet,
             Timer::Keep,
             0,
         ),
-        Checked::Refused(h) => refuse_dt(c, h, unit, out),
+        Err(h) => refuse_dt(c, h, unit, out),
     }
 }
 
@@ -180,9 +173,10 @@ pub fn take_dt(c: Connection, unit: &[u8], out: &mut [u8]) -> Step
     ensures { Does (step (unit_indication Kind.Dt unit.now) c out.old) result.answer result.connection out.new }
 {
     if c.state == Connection::DATA {
-        return judge_dt(c, unit, out);
+        judge_dt(c, unit, out)
+    } else {
+        out_of_sequence(c, Kind::Dt, out)
     }
-    out_of_sequence(c, Kind::Dt, out)
 }
 
 // The user data of a DT that go up.
@@ -193,6 +187,5 @@ pub fn data_of<'u, 'o>(c: Connection, unit: &'u [u8], out: &'o [u8]) -> &'u [u8]
     if c.state != Connection::DATA {
         return &unit[..0];
     }
-    let key = c.key;
-    authentication::user_data(unit, &key, etcs_id(c.own), !c.responder)
+    authentication::user_data(unit, &c.key, etcs_id(c.own), !c.responder)
 }

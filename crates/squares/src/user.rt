@@ -6,35 +6,29 @@ ghost use Rattle.units.specs.Units.{etcs_id, release_code};
 ghost use Rattle.table.specs.Table.{state_code};
 ghost use Rattle.table.specs.Steps.{idle, acts, with_state};
 
-use authentication::UNIT_LEAST;
 use table::ends::{acting, ended};
-use table::states::entering;
-use table::{Connection, State, Step, Stepped, Timer, ToTransport, ToUser};
+use table::{Connection, State, Step, Timer, ToTransport, ToUser};
 use units::etcs_id;
 
 // A DT goes out, in DATA.
 pub fn send_dt(c: Connection, user: &[u8], out: &mut [u8]) -> Step
     requires { (1032 ≤ length out.old) × (between 1 1023 (length user.now) ≡ true) }
-    ensures { (result.answer ≡ Stepped.Done (acts ToUser.Nothing ToTransport.SendDt Timer.Keep (length user.now + 9))) × (result.connection ≡ with_state c (state_code State.DATA)) × (out.new ≡ splice out.old 0 (unit_of c.key (etcs_id c.peer) c.responder user.now)) }
+    ensures { (result.answer ≡ Ok (acts ToUser.Nothing ToTransport.SendDt Timer.Keep (length user.now + 9))) × (result.connection ≡ with_state c (state_code State.DATA)) × (out.new ≡ splice out.old 0 (unit_of c.key (etcs_id c.peer) c.responder user.now)) }
 {
-    let key = c.key;
-    authentication::build(&key, etcs_id(c.peer), c.responder, user, out);
+    let written = authentication::build(&c.key, etcs_id(c.peer), c.responder, user, out).unwrap();
     acting(
-        entering(c, Connection::DATA),
+        c.entering(Connection::DATA),
         ToUser::Nothing,
         ToTransport::SendDt,
         Timer::Keep,
-        user.len() + UNIT_LEAST,
+        written,
     )
 }
 
 // The transport connection is lost or released.
 pub fn lost(reason: u8, unit: &[u8]) -> Step
-    ensures { (result.answer ≡ Stepped.Done (acts (ToUser.DisconnectIndication (release_code reason unit.now).reason (release_code reason unit.now).sub) ToTransport.Quiet Timer.StopAll 0)) × (result.connection ≡ idle) }
+    ensures { (result.answer ≡ Ok (acts (ToUser.DisconnectIndication (release_code reason unit.now)) ToTransport.Quiet Timer.StopAll 0)) × (result.connection ≡ idle) }
 {
-    let code = units::release_code(reason, unit);
-    ended(
-        ToUser::DisconnectIndication(code.reason, code.sub),
-        ToTransport::Quiet,
-    )
+    let why = units::release_code(reason, unit);
+    ended(ToUser::DisconnectIndication(why), ToTransport::Quiet)
 }

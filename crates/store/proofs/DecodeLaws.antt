@@ -16,7 +16,7 @@ use Rattle.store.specs.Layout.{record_at, peers_at, total}
 use Rattle.store.specs.Store.{Entry, header, key_record, key_records, peers_of, encode, entries, entries_from, entry_at, first, count, key_count, peer_count, sum_before, sound}
 use Rattle.store.specs.declared.Limits.{Limits}
 use Rattle.store.proofs.EncodingLaws.{LongKeys}
-use Rattle.store.proofs.SoundLaws.{Sound, sound-says}
+use Rattle.store.proofs.SoundLaws.{Sound, sound_says}
 
 pub entries_from-length : (L : Limits) (s : List ℕ) (i n : ℕ) → length (entries_from L s i n) ≡ n
 unfolding entries_from
@@ -160,4 +160,4 @@ module _ (L : Limits) (s : List ℕ) (b : Bytes s) (w : Sound L s) where
 
 -- a sound store is the encoding of its entries
 pub encode-entries : (L : Limits) (s : List ℕ) → Bytes s → sound L s ≡ true → s ≡ encode L (entries L s)
-encode-entries L s b h = sound-encode L s b (sound-says L s h)
+encode-entries L s b h = sound-encode L s b (sound_says L s h)

@@ -8,6 +8,7 @@ use native.Mathlib.Omega.{arith}
 use lib.ListN.{length, get_or}
 use lib.Dec.{ltb}
 use borrow.Author.Tests.{ltb-true, ltb-false}
+use Rattle.std.specs.Prelude.{Option, Some}
 use Rattle.octets.specs.Words.{elem}
 use Rattle.octets.proofs.BoolLaws.{clash, and_left, and_right}
 use Rattle.store.specs.Layout.{edition_of}
@@ -15,16 +16,14 @@ use Rattle.store.specs.Store.{Entry, entries, key_count, sound}
 use Rattle.store.specs.Search.{fits, serves, chosen, found, unfound, or_else, placed, find_in, find}
 use Rattle.store.specs.WellFormed.{nobody}
 use Rattle.store.specs.Claims.{Taken, IsFound, NoneServes, AllAmong, placeless}
-use Rattle.store.specs.declared.Choice.{Choice}
-use Rattle.store.specs.declared.Edition.{Edition}
-use Rattle.store.specs.declared.Edition.TheVariants.{Known}
+use Rattle.store.specs.Search.{Choice}
 use Rattle.store.specs.declared.Limits.{Limits}
 use Rattle.store.proofs.DecodeLaws.{entries-length}
 use Rattle.store.proofs.LatestLaws.{Takes, takes, outlasted}
-use Rattle.store.proofs.SearchLaws.{FoundIn, found_in, find-placed, not_found, find-unsound, find_at, find_none}
+use Rattle.store.proofs.SearchLaws.{FoundIn, found_in, find_placed, not_found, find_unsound, find_at, find_none}
 use Rattle.store.proofs.WellFormedLaws.{entries_at}
 
-module _ (L : Limits) (s : List ℕ) (peer t : ℕ) (known : edition_of (length s) ≡ Known L) where
+module _ (L : Limits) (s : List ℕ) (peer t : ℕ) (known : edition_of (length s) ≡ Some L) where
   abbrev choice : Choice
   choice = chosen peer t (entries L s)
 
@@ -34,9 +33,9 @@ module _ (L : Limits) (s : List ℕ) (peer t : ℕ) (known : edition_of (length 
   takes-here : Takes (serves peer t) (entries L s) choice
   takes-here = takes (serves peer t) (entries L s)
 
-  in_edition : find s peer t ≡ find_in (Known L) s peer t
+  in_edition : find s peer t ≡ find_in (Some L) s peer t
   unfolding find
-  in_edition = ap (λ (E : Edition). find_in E s peer t) known
+  in_edition = ap (λ (E : Option Limits). find_in E s peer t) known
 
   pub in_sound : sound L s ≡ true → find s peer t ≡ placed choice size
   unfolding find_in
@@ -73,7 +72,7 @@ module _ (L : Limits) (s : List ℕ) (peer t : ℕ) (known : edition_of (length 
         its_end = ap (λ (i : ℕ). (get_or (entries L s) i nobody).end) (sym at) ∙ w.its_end f.inside ∙ f.end_is;
         none_later = λ j l k. omega (arith, w.none_later j l k, f.end_is);
         first = λ j l k. omega (arith, w.first j (omega (arith, f.place_is)) (omega (arith, f.place_is, f.inside)) k, f.end_is);
-        its_kmac = (find-placed s peer t p until q).key_is ∙ sym (ap (λ (x : Entry). x.kmac) (entries_at L s (p - 1) counted));
+        its_kmac = (find_placed s peer t p until q).key_is ∙ sym (ap (λ (x : Entry). x.kmac) (entries_at L s (p - 1) counted));
       }
 
   pub one_found : sound L s ≡ true → (j : ℕ) → j < size → serves peer t (get_or (entries L s) j nobody) ≡ true → IsFound s peer t
@@ -96,7 +95,7 @@ module _ (L : Limits) (s : List ℕ) (peer t : ℕ) (known : edition_of (length 
       soundly : (b : Bool) → sound L s ≡ b → (sound L s ≡ true) × NoneServes (entries L s) peer t
       soundly true h =
           (h, λ j k. one-there h (ltb choice.place size) refl (serves peer t (get_or (entries L s) j nobody)) j k refl)
-      soundly false h = let z : unfound 11 ≡ unfound 12 = sym e ∙ in_edition ∙ find-unsound L s peer t h in let y : ◌≡◌ {A = ℕ} 11 12 = cc in absurd (omega arith)
+      soundly false h = let z : unfound 11 ≡ unfound 12 = sym e ∙ in_edition ∙ find_unsound L s peer t h in let y : ◌≡◌ {A = ℕ} 11 12 = cc in absurd (omega arith)
 
   pub none_found : sound L s ≡ true → NoneServes (entries L s) peer t → find s peer t ≡ unfound 11
   none_found h f = in_edition ∙ find_none L s peer t h choice refl (go (ltb choice.place size) refl)

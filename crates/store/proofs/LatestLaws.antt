@@ -1,20 +1,22 @@
 -- Laws of the choice among entries: a turn of the loop that makes it from behind, and what it is (change request 7).
 -- Assumes nothing.
 use mathlib.Core.Path.{◌≡◌, refl, sym, ap, ap₂, ◌∙◌}
-use mathlib.Core.Bool.{Bool, true, false, ◌&&◌}
+use mathlib.Core.Bool.{Bool, true, false, cond, ◌&&◌}
 use mathlib.Core.List.{List, [], ◌∷◌}
 use Prim.Native.Nat.{ℕ, zero, suc, ◌+◌, ◌-◌, ◌≤◌, ◌<◌}
 use native.Mathlib.Nat.{add-zero, zero-add, sub-zero}
 use native.Mathlib.Omega.{arith}
 use lib.ListN.{length, get_or}
 use lib.Dec.{ltb, leb}
-use borrow.Author.Tests.{le-leb, lt-leb, leb-true, leb-false, ltb-true, ltb-false}
+use borrow.Author.Tests.{le-leb, lt-leb, lt-ltb, le-ltb, leb-true, leb-false, ltb-true, ltb-false}
+use Rattle.std.specs.Prelude.{Option, Some, None, IfSome}
 use Rattle.octets.proofs.BoolLaws.{and_left, and_right, and_false_left, and_false_right}
 use Rattle.store.specs.Store.{Entry, entries, entries_from, entry_at, key_count}
-use Rattle.store.specs.Search.{one_more, latest}
+use Rattle.store.specs.Search.{one_more, latest, taken, end_of}
 use Rattle.store.specs.WellFormed.{nobody}
 use Rattle.store.specs.Claims.{Among, AllAmong}
-use Rattle.store.specs.declared.Choice.{Choice}
+use Rattle.store.specs.Search.{Choice}
+use Rattle.store.specs.declared.Found.{Found}
 use Rattle.store.specs.declared.Limits.{Limits}
 
 -- ---- a turn of the loop
@@ -82,6 +84,30 @@ module _ (p : Entry → Bool) (L : Limits) (s : List ℕ) (n : ℕ) where
       let e : behind p L s n i ≡ all = ap (behind p L s n) z ∙ ap (λ (x : ℕ). latest p (entries_from L s 0 x)) (sub-zero n ∙ k) in
       let q : place ≡ all.place = b.place_is ∙ ap (λ (x : ℕ). x + (behind p L s n i).place) z ∙ zero-add _ ∙ ap (λ (x : Choice). x.place) e in
       ap₂ (λ (x y : ℕ). record { place = x; end = y }) q (b.end_is ∙ ap (λ (x : Choice). x.end) e)
+
+-- what the loop holds, as a place counted from 0 and an end; nothing is the place behind the last
+abbrev pub place_held : Option Found → ℕ → ℕ
+place_held None n = n
+place_held (Some f) n = f.place - 1
+
+-- the loop holds the choice among the entries from i on
+pub record Held (p : Entry → Bool) (L : Limits) (s : List ℕ) (n i : ℕ) (o : Option Found) : Type 0 where
+  pub best : Best p L s n i (place_held o n) (end_of o)
+  pub within : IfSome o (λ f. (0 < f.place) × (f.place ≤ n))
+
+pub held_taken : (p : Entry → Bool) (L : Limits) (s : List ℕ) (n i : ℕ) (o : Option Found) → i ≡ 0 → n ≡ key_count s → length (entries L s) ≡ n → Held p L s n i o
+    → o ≡ taken (latest p (entries L s)) (length (entries L s))
+held_taken p L s n i None z k m h =
+    let e = best_all p L s n i n 0 z k h.best in
+    let size = length (entries L s) in
+    sym (ap (λ (c : Choice). taken c size) (sym e) ∙ ap (λ (b : Bool). cond b (Some (record { place = suc n; end = 0 })) None) (le-ltb n size (omega (arith, m))))
+held_taken p L s n i (Some f) z k m h =
+    let e = best_all p L s n i (f.place - 1) f.end z k h.best in
+    let size = length (entries L s) in
+    let q : suc (f.place - 1) ≡ f.place = omega (arith, h.within.0) in
+    sym (ap (λ (c : Choice). taken c size) (sym e)
+    ∙ ap (λ (b : Bool). cond b (Some (record { place = suc (f.place - 1); end = f.end })) None) (lt-ltb (f.place - 1) size (omega (arith, m, h.within.0, h.within.1)))
+    ∙ ap (λ (x : ℕ). Some (record { place = x; end = f.end })) q)
 
 -- ---- what the choice is
 

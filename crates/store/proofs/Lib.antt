@@ -11,4 +11,5 @@ pub mod FindLaws
 pub mod EmptyLaws
 pub mod AnswerLaws
 pub mod Examples
+pub mod ChainLaws
 pub mod Theorems

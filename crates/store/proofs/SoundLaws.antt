@@ -43,13 +43,6 @@ all_hold-last [] true e = refl
 all_hold-last [] false e = refl
 all_hold-last (x ∷ bs) b e = rw (and_left x (all_hold bs) e) (all_hold-last bs b (and_right x (all_hold bs) e))
 
--- a number that was read is the one asked for, or is not
-pub reads_is : (x r e : ℕ) → r ≡ x → r ≡ e → eqb x e ≡ true
-reads_is x r e p q = eq-eqb x e (sym p ∙ q)
-
-pub reads_not : (x r e : ℕ) → r ≡ x → (r ≡ e → ⊥) → eqb x e ≡ false
-reads_not x r e p q = ne_eqb x e (λ t. q (p ∙ t))
-
 module _ (L : Limits) (s : List ℕ) where
   -- the condition with this number fails
   pub unsound : (k : ℕ) → get_or (conditions L s) k true ≡ false → sound L s ≡ false
@@ -66,9 +59,9 @@ module _ (L : Limits) (s : List ℕ) where
       (all_hold-cons (header_ok L s) _ q
       (all_hold-cons (counts_ok L s) _ r (all_hold-cons (sums_ok s) _ t (all_hold-cons (unique_ok s) _ u (all_hold-cons (parity_ok s) [] v all_hold-none))))))
 
-  pub counts_ok-says : counts_ok L s ≡ true → (key_count s ≤ L.keys) × (peer_count s ≤ L.peers)
+  pub counts_ok_says : counts_ok L s ≡ true → (key_count s ≤ L.keys) × (peer_count s ≤ L.peers)
   unfolding counts_ok
-  counts_ok-says h =
+  counts_ok_says h =
       let c1 : Bool = leb (key_count s) L.keys in
       let c2 : Bool = leb (peer_count s) L.peers in
       (leb-true (key_count s) L.keys (and_left c1 c2 h), leb-true (peer_count s) L.peers (and_right c1 c2 h))
@@ -99,9 +92,9 @@ module _ (L : Limits) (s : List ℕ) (h : sound L s ≡ true) where
   unfolding header_ok
   fixed k = all_hold-at (header_tests L s) k (condition 1)
 
-  pub sound-says : Sound L s
+  pub sound_says : Sound L s
   unfolding sums_ok unique_ok parity_ok unused_ok
-  sound-says =
+  sound_says =
       let n : ℕ = key_count s in
       let s1 : Bool = all_below n (sum_at s) in
       let s2 : Bool = eqb (sum_before s n) (peer_count s) in
@@ -113,8 +106,8 @@ module _ (L : Limits) (s : List ℕ) (h : sound L s ≡ true) where
         keys_at = eqb-true (get16 s 4) 12 (fixed 1);
         peers_at_lem = eqb-true (get16 s 8) (peers_at L) (fixed 2);
         total_is = eqb-true (get16 s 10) (total L) (fixed 3);
-        keys_fit = (counts_ok-says L s (condition 2)).0;
-        peers_fit = (counts_ok-says L s (condition 2)).1;
+        keys_fit = (counts_ok_says L s (condition 2)).0;
+        peers_fit = (counts_ok_says L s (condition 2)).1;
         sums = λ i l. eqb-true (first s i) (sum_before s i) (all_below-at n i (sum_at s) (and_left s1 s2 (condition 3)) l);
         sum = eqb-true (sum_before s n) (peer_count s) (and_right s1 s2 (condition 3));
         unique = λ i l. all_below-at n i (new_key s) (condition 4) l;
@@ -126,7 +119,7 @@ module _ (L : Limits) (s : List ℕ) (h : sound L s ≡ true) where
   -- a sound store has an edition whose numbers fit
   pub sound_bounded : Bytes s → Bounded L
   sound_bounded b =
-      let w : Sound L s = sound-says in
+      let w : Sound L s = sound_says in
       record {
         edition_fits = subst (λ (x : ℕ). x < 65536) w.edition_is (get16-fits s b 0);
         total_fits = subst (λ (x : ℕ). x < 65536) w.total_is (get16-fits s b 10);

@@ -2,6 +2,7 @@
 -- Assumes nothing.
 use mathlib.Core.Path.{◌≡◌, refl, sym, ap, subst, ◌∙◌}
 use mathlib.Core.Bool.{Bool, true, false}
+use Rattle.std.specs.Prelude.{Option, Some, None}
 use mathlib.Core.List.{List, [], ◌∷◌}
 use mathlib.Core.Logic.{◌⊎◌, inl, inr, ⊎_elim}
 use Prim.Native.Nat.{ℕ, zero, suc, ◌<◌}
@@ -13,16 +14,14 @@ use Rattle.octets.proofs.BoolLaws.{between-true, is-between, under, over}
 use Rattle.refusal.specs.House.{house}
 use Rattle.refusal.proofs.Laws.{not-both}
 use Rattle.store.specs.declared.Limits.{Limits}
-use Rattle.store.specs.declared.Edition.{Edition}
-use Rattle.store.specs.declared.Edition.TheVariants.{Known, Unknown}
 use Rattle.store.specs.Layout.{edition1, edition2, edition_of}
 use Rattle.store.specs.Store.{encode, entries, sound}
 use Rattle.store.specs.Search.{fits, unfound, find_in, find, empty_in, emptied}
 use Rattle.store.specs.Request.{Request, work}
 use Rattle.store.specs.WellFormed.{AllReadable}
 use Rattle.store.specs.Claims.{OneStore, HeaderSays, AcceptedSaysEdition, RequestsKeepSound, BothEndsFit, ReversedNeverFits, OneMomentFits, EndlessFits, placeless, LatestTaken, WholeKey, UnsoundExactly, NoKeyExactly, OrderKeepsEnd, RefusedEmptyWritesNothing, OneAnswer}
-use Rattle.store.proofs.SoundLaws.{Sound, sound-says}
-use Rattle.store.proofs.SearchLaws.{Placed, kmac_long, known-edition, find-placed, find-unsound}
+use Rattle.store.proofs.SoundLaws.{Sound, sound_says}
+use Rattle.store.proofs.SearchLaws.{Placed, kmac_long, known-edition, find_placed, find_unsound}
 use Rattle.store.proofs.FindLaws.{in_sound, twelve-unsound, found-taken, one_found, none-there, none_found, same_taken}
 use Rattle.store.proofs.DecodeLaws.{encode-entries}
 use Rattle.store.proofs.WellFormedLaws.{none-well_formed, sound-well_formed}
@@ -42,20 +41,20 @@ one_store =
     }
 
 header-says : (L : Limits) (s : List ℕ) → sound L s ≡ true → HeaderSays L s
-header-says L s h = let w : Sound L s = sound-says L s h in (w.edition_is, w.total_is, w.size)
+header-says L s h = let w : Sound L s = sound_says L s h in (w.edition_is, w.total_is, w.size)
 
-found-sound : (L : Limits) (s : List ℕ) (peer t : ℕ) → (find_in (Known L) s peer t ≡ unfound 12 → ⊥) → HeaderSays L s
+found-sound : (L : Limits) (s : List ℕ) (peer t : ℕ) → (find_in (Some L) s peer t ≡ unfound 12 → ⊥) → HeaderSays L s
 found-sound L s peer t f = go (sound L s) refl
   where
     go : (b : Bool) → sound L s ≡ b → HeaderSays L s
     go true h = header-says L s h
-    go false h = absurd (f (find-unsound L s peer t h))
+    go false h = absurd (f (find_unsound L s peer t h))
 
-found-edition : (E : Edition) (s : List ℕ) (peer t : ℕ) → ((L : Limits) → E ≡ Known L → (edition1 ≡ L) ⊎ (edition2 ≡ L)) → (find_in E s peer t ≡ unfound 1 → ⊥)
+found-edition : (E : Option Limits) (s : List ℕ) (peer t : ℕ) → ((L : Limits) → E ≡ Some L → (edition1 ≡ L) ⊎ (edition2 ≡ L)) → (find_in E s peer t ≡ unfound 1 → ⊥)
     → (find_in E s peer t ≡ unfound 12 → ⊥) → HeaderSays edition1 s ⊎ HeaderSays edition2 s
 unfolding find_in
-found-edition Unknown s peer t k f g = absurd (f refl)
-found-edition (Known L) s peer t k f g =
+found-edition None s peer t k f g = absurd (f refl)
+found-edition (Some L) s peer t k f g =
     let h : HeaderSays L s = found-sound L s peer t g in
     ⊎_elim (λ e. inl (subst (λ (M : Limits). HeaderSays M s) (sym e) h)) (λ e. inr (subst (λ (M : Limits). HeaderSays M s) (sym e) h)) (k L refl)
 
@@ -111,27 +110,27 @@ latest-taken = record { taken = found-taken; one_found = one_found }
 pub whole-key : WholeKey
 whole-key =
     record {
-      inside = λ s peer t place end e. (find-placed s peer t place end e).has_record;
-      there = λ s peer t place end e. (find-placed s peer t place end e).key_is;
+      inside = λ s peer t place end e. (find_placed s peer t place end e).has_record;
+      there = λ s peer t place end e. (find_placed s peer t place end e).key_is;
       long = λ s peer t place end e.
-          let p : Placed s peer t place = find-placed s peer t place end e in
+          let p : Placed s peer t place = find_placed s peer t place end e in
           ap length p.key_is ∙ kmac_long s place p.has_record;
     }
 
-twelve-edition : (E : Edition) (s : List ℕ) (peer t : ℕ) → edition_of (length s) ≡ E → find s peer t ≡ unfound 12 → (L : Limits) × (E ≡ Known L) × (sound L s ≡ false)
+twelve-edition : (E : Option Limits) (s : List ℕ) (peer t : ℕ) → edition_of (length s) ≡ E → find s peer t ≡ unfound 12 → (L : Limits) × (E ≡ Some L) × (sound L s ≡ false)
 unfolding find find_in
-twelve-edition Unknown s peer t d q =
-    let z : unfound 1 ≡ unfound 12 = ap (λ (E : Edition). find_in E s peer t) (sym d) ∙ q in
+twelve-edition None s peer t d q =
+    let z : unfound 1 ≡ unfound 12 = ap (λ (E : Option Limits). find_in E s peer t) (sym d) ∙ q in
     let y : ◌≡◌ {A = ℕ} 1 12 = cc in
     absurd (omega arith)
-twelve-edition (Known L) s peer t d q = (L, refl, twelve-unsound L s peer t d q)
+twelve-edition (Some L) s peer t d q = (L, refl, twelve-unsound L s peer t d q)
 
 pub unsound-exactly : UnsoundExactly
 unfolding find
 unsound-exactly =
     record {
       only = λ s peer t q. twelve-edition (edition_of (length s)) s peer t refl q;
-      unsound = λ L s peer t d h. ap (λ (E : Edition). find_in E s peer t) d ∙ find-unsound L s peer t h;
+      unsound = λ L s peer t d h. ap (λ (E : Option Limits). find_in E s peer t) d ∙ find_unsound L s peer t h;
     }
 
 pub no-key-exactly : NoKeyExactly
@@ -150,9 +149,9 @@ pub refused_empty_writes_nothing : RefusedEmptyWritesNothing
 unfolding empty_in emptied
 refused_empty_writes_nothing = record { kept = λ s n e. kept s n (edition_of (length s)) e }
   where
-    kept : (s : List ℕ) (n : ℕ) (d : Edition) → empty_in d ≡ house n → emptied d s ≡ s
-    kept s n Unknown e = refl
-    kept s n (Known L) e = not-both n 0 (sym e)
+    kept : (s : List ℕ) (n : ℕ) (d : Option Limits) → empty_in d ≡ house n → emptied d s ≡ s
+    kept s n None e = refl
+    kept s n (Some L) e = not-both n 0 (sym e)
 
 pub one_answer : OneAnswer
 one_answer = record { of_find = found-one; of_empty = emptied-one }

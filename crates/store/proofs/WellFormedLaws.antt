@@ -22,7 +22,7 @@ use Rattle.store.specs.Request.{has_key, key_place, remove_at, update_at, valid_
 use Rattle.store.specs.WellFormed.{Fitting, Words, nobody, WellFormed}
 use Rattle.store.specs.declared.Limits.{Limits}
 use Rattle.store.proofs.EncodingLaws.{peers_of-append}
-use Rattle.store.proofs.SoundLaws.{Sound, sound-says}
+use Rattle.store.proofs.SoundLaws.{Sound, sound_says}
 use Rattle.store.proofs.DecodeLaws.{entries-length, peers-length}
 
 -- ---- the entries of a sound store
@@ -80,7 +80,7 @@ module _ (L : Limits) (s : List ℕ) (b : Bytes s) (w : Sound L s) where
       }
 
 pub sound-well_formed : (L : Limits) (s : List ℕ) → Bytes s → sound L s ≡ true → WellFormed L (entries L s)
-sound-well_formed L s b h = sound-entries L s b (sound-says L s h)
+sound-well_formed L s b h = sound-entries L s b (sound_says L s h)
 
 -- ---- without one of the entries
 

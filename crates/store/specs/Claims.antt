@@ -1,13 +1,12 @@
 -- What is claimed of the store beside the contracts. proofs/Theorems.antt has a proof of each claim.
 -- Assumes nothing.
-use Rattle.std.specs.Prelude.{◌≡◌, true, false, List, [], ◌⊎◌, ℕ, ◌+◌, ◌-◌, ◌≤◌, ◌<◌, eqb, length, get_or, take}
+use Rattle.std.specs.Prelude.{◌≡◌, true, false, List, [], ◌⊎◌, ℕ, ◌+◌, ◌-◌, ◌≤◌, ◌<◌, eqb, length, get_or, take, ⊤, Some, Result}
+use Rattle.refusal.specs.declared.Refusal.{Refusal}
 use Rattle.octets.specs.Bytes.{Bytes, get16}
 use Rattle.octets.specs.Words.{elem}
 use Rattle.refusal.specs.House.{house}
 use Rattle.store.specs.declared.Limits.{Limits}
-use Rattle.store.specs.declared.Edition.TheVariants.{Known}
 use Rattle.store.specs.declared.Found.{Found}
-use Rattle.store.specs.declared.Emptied.{Emptied}
 use Rattle.store.specs.Layout.{Bounded, total, edition1, edition2, edition_of}
 use Rattle.store.specs.Store.{Entry, HasPlace, kmac_at, encode, entries, sound}
 use Rattle.store.specs.Search.{fits, serves, Finding, found, unfound, find, key, found_as, emptied_as, empty_in, emptied}
@@ -85,10 +84,10 @@ pub record IsFound (s : List ℕ) (peer t : ℕ) : Type 0 where
   pub given : find s peer t ≡ found place end
 
 pub record LatestTaken : Type 0 where
-  pub taken : (L : Limits) (s : List ℕ) (peer t : ℕ) → edition_of (length s) ≡ Known L → (place end : ℕ) → find s peer t ≡ found place end
+  pub taken : (L : Limits) (s : List ℕ) (peer t : ℕ) → edition_of (length s) ≡ Some L → (place end : ℕ) → find s peer t ≡ found place end
       → Taken L s peer t place end
   -- and where the store is sound and an entry serves, find gives one
-  pub one_found : (L : Limits) (s : List ℕ) (peer t : ℕ) → edition_of (length s) ≡ Known L → sound L s ≡ true → (j : ℕ) → j < length (entries L s)
+  pub one_found : (L : Limits) (s : List ℕ) (peer t : ℕ) → edition_of (length s) ≡ Some L → sound L s ≡ true → (j : ℕ) → j < length (entries L s)
       → serves peer t (get_or (entries L s) j nobody) ≡ true → IsFound s peer t
 
 -- where find gives a place, it lies in the store, and `key` is the KMAC there, which is whole
@@ -102,14 +101,14 @@ NoneServes es peer t = (j : ℕ) → j < length es → serves peer t (get_or es 
 
 -- H12 exactly where the length is that of an edition and the store is not sound in it
 pub record UnsoundExactly : Type 0 where
-  pub only : (s : List ℕ) (peer t : ℕ) → find s peer t ≡ unfound 12 → (L : Limits) × (edition_of (length s) ≡ Known L) × (sound L s ≡ false)
-  pub unsound : (L : Limits) (s : List ℕ) (peer t : ℕ) → edition_of (length s) ≡ Known L → sound L s ≡ false → find s peer t ≡ unfound 12
+  pub only : (s : List ℕ) (peer t : ℕ) → find s peer t ≡ unfound 12 → (L : Limits) × (edition_of (length s) ≡ Some L) × (sound L s ≡ false)
+  pub unsound : (L : Limits) (s : List ℕ) (peer t : ℕ) → edition_of (length s) ≡ Some L → sound L s ≡ false → find s peer t ≡ unfound 12
 
 -- H11 exactly where the store is sound and no entry serves
 pub record NoKeyExactly : Type 0 where
-  pub none_serves : (L : Limits) (s : List ℕ) (peer t : ℕ) → edition_of (length s) ≡ Known L → find s peer t ≡ unfound 11
+  pub none_serves : (L : Limits) (s : List ℕ) (peer t : ℕ) → edition_of (length s) ≡ Some L → find s peer t ≡ unfound 11
       → (sound L s ≡ true) × NoneServes (entries L s) peer t
-  pub no_key : (L : Limits) (s : List ℕ) (peer t : ℕ) → edition_of (length s) ≡ Known L → sound L s ≡ true → NoneServes (entries L s) peer t
+  pub no_key : (L : Limits) (s : List ℕ) (peer t : ℕ) → edition_of (length s) ≡ Some L → sound L s ≡ true → NoneServes (entries L s) peer t
       → find s peer t ≡ unfound 11
 
 pub record Among (es : List Entry) (e : Entry) : Type 0 where
@@ -127,7 +126,7 @@ placeless (unfound n) = unfound n
 
 -- the order of the entries does not move the end: two sound stores, of either edition, each with all entries of the other
 pub record OrderKeepsEnd : Type 0 where
-  pub same_end : (L M : Limits) (s r : List ℕ) (peer t : ℕ) → edition_of (length s) ≡ Known L → edition_of (length r) ≡ Known M → sound L s ≡ true
+  pub same_end : (L M : Limits) (s r : List ℕ) (peer t : ℕ) → edition_of (length s) ≡ Some L → edition_of (length r) ≡ Some M → sound L s ≡ true
       → sound M r ≡ true → AllAmong (entries L s) (entries M r) → AllAmong (entries M r) (entries L s) → placeless (find s peer t) ≡ placeless (find r peer t)
 
 -- demand 1: a refused `empty` writes nothing
@@ -136,5 +135,5 @@ pub record RefusedEmptyWritesNothing : Type 0 where
 
 -- the paper's numbers are those of one answer only: a contract that fixes them fixes the answer
 pub record OneAnswer : Type 0 where
-  pub of_find : (a b : Found) → found_as a ≡ found_as b → a ≡ b
-  pub of_empty : (a b : Emptied) → emptied_as a ≡ emptied_as b → a ≡ b
+  pub of_find : (a b : Result Found Refusal) → found_as a ≡ found_as b → a ≡ b
+  pub of_empty : (a b : Result ⊤ Refusal) → emptied_as a ≡ emptied_as b → a ≡ b

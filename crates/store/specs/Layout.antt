@@ -1,10 +1,8 @@
 -- The editions of the key store (document 01, "The key store"): an edition's number and its two limits decide where its parts stand and
 -- how long it is, and a buffer's length picks the edition.
 -- Assumes nothing.
-use Rattle.std.specs.Prelude.{Bool, true, false, List, [], ◌∷◌, ℕ, ◌+◌, ◌*◌, ◌<◌, eqb}
+use Rattle.std.specs.Prelude.{cond, List, [], ◌∷◌, ℕ, ◌+◌, ◌*◌, ◌<◌, eqb, Option, Some, None}
 use Rattle.store.specs.declared.Limits.{Limits}
-use Rattle.store.specs.declared.Edition.{Edition}
-use Rattle.store.specs.declared.Edition.TheVariants.{Known, Unknown}
 
 -- the header has 12 bytes, a key record 44, a peer 4
 abbrev pub record_at : ℕ → ℕ
@@ -32,14 +30,10 @@ edition2 = record { edition = 2; keys = 500; peers = 4000 }
 abbrev pub editions : List Limits
 editions = edition1 ∷ edition2 ∷ []
 
-abbrev pub pick_edition : Bool → Edition → Edition → Edition
-pick_edition true a b = a
-pick_edition false a b = b
-
 -- the first edition of a list that has this length
-unfoldable pub edition_in : List Limits → ℕ → Edition
-edition_in [] n = Unknown
-edition_in (L ∷ Ls) n = pick_edition (eqb n (total L)) (Known L) (edition_in Ls n)
+unfoldable pub edition_in : List Limits → ℕ → Option Limits
+edition_in [] n = None
+edition_in (L ∷ Ls) n = cond (eqb n (total L)) (Some L) (edition_in Ls n)
 
-unfoldable pub edition_of : ℕ → Edition
+unfoldable pub edition_of : ℕ → Option Limits
 edition_of n = edition_in editions n

@@ -1,18 +1,14 @@
 -- The search for a key (document 01, "Key search"), and what `find`, `key` and `empty` answer.
 -- Assumes nothing.
-use Rattle.std.specs.Prelude.{Bool, true, false, ◌&&◌, List, [], ◌∷◌, ℕ, zero, suc, length, leb, ltb}
+use Rattle.std.specs.Prelude.{Bool, true, false, cond, ◌&&◌, List, [], ◌∷◌, ℕ, zero, suc, length, leb, ltb, ⊤, Option, Some, None, Result, Ok, Err}
 use Rattle.octets.specs.Bytes.{between}
 use Rattle.octets.specs.Words.{elem}
-use Rattle.refusal.specs.House.{Answer, house, gives, house_number}
+use Rattle.refusal.specs.House.{Answer, house, gives, house_number, answer_as}
+use Rattle.refusal.specs.declared.Refusal.{Refusal}
 use Rattle.store.specs.Layout.{edition_of}
 use Rattle.store.specs.Store.{Entry, encode, entries, kmac_at, sound}
-use Rattle.store.specs.declared.Choice.{Choice}
-use Rattle.store.specs.declared.Edition.{Edition}
-use Rattle.store.specs.declared.Edition.TheVariants.{Known, Unknown}
 use Rattle.store.specs.declared.Found.{Found}
-use Rattle.store.specs.declared.Found.TheVariants as FoundAs
-use Rattle.store.specs.declared.Emptied.{Emptied}
-use Rattle.store.specs.declared.Emptied.TheVariants as EmptiedAs
+use Rattle.store.specs.declared.Limits.{Limits}
 
 -- ---- which record is taken
 
@@ -32,6 +28,11 @@ pick_number false a b = b
 unfoldable pub place_where : (Entry → Bool) → List Entry → ℕ
 place_where p [] = 0
 place_where p (e ∷ es) = pick_number (p e) 0 (suc (place_where p es))
+
+-- the place of the entry that is taken, counted from 0, and its end; where none is, the number of entries, and 0
+pub record Choice : Type 0 where
+  pub place : ℕ
+  pub end : ℕ
 
 -- one entry more in front, with this end: it is taken where the test holds, else what is taken behind it, one place further on
 abbrev pub one_more : Bool → ℕ → Choice → Choice
@@ -65,17 +66,26 @@ abbrev pub or_else : Bool → ℕ → Finding → Finding
 or_else true n f = f
 or_else false n f = unfound n
 
-abbrev pub found_as : Found → Finding
-found_as (FoundAs.At p e) = found p e
-found_as (FoundAs.Refused h) = unfound (house_number h)
+abbrev pub found_as : Result Found Refusal → Finding
+found_as (Ok f) = found f.place f.end
+found_as (Err h) = unfound (house_number h)
+
+-- what is taken of n entries, the first place being 1
+abbrev pub taken : Choice → ℕ → Option Found
+taken c n = cond (ltb c.place n) (Some (record { place = suc c.place; end = c.end })) None
+
+-- the end of what is taken; 0, before which none lies, where nothing is
+abbrev pub end_of : Option Found → ℕ
+end_of None = 0
+end_of (Some f) = f.end
 
 -- the choice among n entries
 abbrev pub placed : Choice → ℕ → Finding
 placed c n = or_else (ltb c.place n) 11 (found (suc c.place) c.end)
 
-unfoldable pub find_in : Edition → List ℕ → ℕ → ℕ → Finding
-find_in Unknown s peer t = unfound 1
-find_in (Known L) s peer t = or_else (sound L s) 12 (placed (chosen peer t (entries L s)) (length (entries L s)))
+unfoldable pub find_in : Option Limits → List ℕ → ℕ → ℕ → Finding
+find_in None s peer t = unfound 1
+find_in (Some L) s peer t = or_else (sound L s) 12 (placed (chosen peer t (entries L s)) (length (entries L s)))
 
 unfoldable pub find : List ℕ → ℕ → ℕ → Finding
 find s peer t = find_in (edition_of (length s)) s peer t
@@ -91,15 +101,14 @@ key s peer t = key_of (find s peer t) s
 
 -- ---- the empty store: H1
 
-abbrev pub emptied_as : Emptied → Answer
-emptied_as EmptiedAs.Done = gives 0
-emptied_as (EmptiedAs.Refused h) = house (house_number h)
+abbrev pub emptied_as : Result ⊤ Refusal → Answer
+emptied_as r = answer_as (λ done. 0) r
 
 -- what empty answers, and what it leaves in the buffer
-unfoldable pub empty_in : Edition → Answer
-empty_in Unknown = house 1
-empty_in (Known L) = gives 0
+unfoldable pub empty_in : Option Limits → Answer
+empty_in None = house 1
+empty_in (Some L) = gives 0
 
-unfoldable pub emptied : Edition → List ℕ → List ℕ
-emptied Unknown s = s
-emptied (Known L) s = encode L []
+unfoldable pub emptied : Option Limits → List ℕ → List ℕ
+emptied None s = s
+emptied (Some L) s = encode L []

@@ -2,7 +2,7 @@
 ghost use Rattle.std.specs.Prelude.{◌≡◌};
 ghost use Rattle.store.specs.Layout.{edition_of};
 
-use super::{Edition, Limits};
+use super::Limits;
 
 // The lengths of a store of edition 1 and of edition 2.
 pub const LENGTH_1: usize = 3852;
@@ -22,14 +22,13 @@ pub const EDITION_2: Limits = Limits {
 };
 
 // The edition whose stores have this length.
-pub fn edition_of(length: usize) -> Edition
+#[tactic(auto, unfolding(crate::specs::Layout::edition_of, crate::specs::Layout::edition_in))]
+pub fn edition_of(length: usize) -> Option<Limits>
     ensures { result ≡ edition_of length }
 {
-    if length == LENGTH_1 {
-        return Edition::Known(EDITION_1);
+    match length {
+        LENGTH_1 => Some(EDITION_1),
+        LENGTH_2 => Some(EDITION_2),
+        _ => None,
     }
-    if length == LENGTH_2 {
-        return Edition::Known(EDITION_2);
-    }
-    Edition::Unknown
 }

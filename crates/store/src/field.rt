@@ -8,7 +8,7 @@ pub fn number_at(s: &[u8], i: usize) -> usize
     requires { i + 2 ≤ length s.now }
     ensures { (result ≡ get16 s.now i) × (result < 65536) }
 {
-    get16_at(s, i) as usize
+    usize::from(get16_at(s, i))
 }
 
 // Writes what two bytes hold of v.

@@ -20,6 +20,7 @@ use search::chosen;
 use sound::is_sound;
 
 // The number and the limits of an edition of the store.
+// Any numbers, and no field says that they are Bounded: sound, entries, encode and the laws take any limits, and what they say may not change.
 #[derive(Clone, Copy)]
 pub struct Limits {
     pub edition: usize,
@@ -27,32 +28,11 @@ pub struct Limits {
     pub peers: usize,
 }
 
-// The edition that a buffer's length picks.
+// What find gives: the record's place, the first being 1, and its end.
 #[derive(Clone, Copy)]
-pub enum Edition {
-    Known(Limits),
-    Unknown,
-}
-
-// What find answers: the record's place, the first being 1, and its end.
-#[derive(Clone, Copy)]
-pub enum Found {
-    At(usize, u32),
-    Refused(Refusal),
-}
-
-// The place of the record that is taken, counted from 0, and its end; where none is, the number of records, and 0.
-#[derive(Clone, Copy)]
-pub struct Choice {
+pub struct Found {
     pub place: usize,
     pub end: u32,
-}
-
-// What empty answers.
-#[derive(Clone, Copy)]
-pub enum Emptied {
-    Done,
-    Refused(Refusal),
 }
 
 // Where the key records start, and the lengths of a record, of the KMAC in it and of a peer.
@@ -65,29 +45,22 @@ pub const KMAC: usize = 24;
 pub const PEER: usize = 4;
 
 // The key for this peer at the moment t, in a store of this edition.
-fn find_in(s: &[u8], lim: Limits, peer: u32, t: u32) -> Found
+fn find_in(s: &[u8], lim: Limits, peer: u32, t: u32) -> Result<Found, Refusal>
     requires { Bounded lim }
-    ensures { found_as result ≡ find_in (Edition.Known lim) s.now peer t }
+    ensures { found_as result ≡ find_in (Some lim) s.now peer t }
 {
     if !is_sound(s, lim) {
-        return Found::Refused(Refusal::StoreUnsound);
+        return Err(Refusal::StoreUnsound);
     }
-    let c = chosen(s, lim, peer, t);
-    if c.place < field::number_at(s, 2) {
-        Found::At(c.place + 1, c.end)
-    } else {
-        Found::Refused(Refusal::NoKey)
-    }
+    chosen(s, lim, peer, t).ok_or(Refusal::NoKey)
 }
 
 // The key for this peer at the moment t: of the records that fit, the first with the latest end.
-pub fn find(s: &[u8], peer: u32, t: u32) -> Found
+#[tactic(auto, using(crate::proofs::SearchLaws::edition_says), unfolding(crate::specs::Search::find, crate::specs::Search::find_in))]
+pub fn find(s: &[u8], peer: u32, t: u32) -> Result<Found, Refusal>
     ensures { found_as result ≡ find s.now peer t }
 {
-    match edition_of(s.len()) {
-        Edition::Known(lim) => find_in(s, lim, peer, t),
-        Edition::Unknown => Found::Refused(Refusal::StoreLength),
-    }
+    find_in(s, edition_of(s.len()).ok_or(Refusal::StoreLength)?, peer, t)
 }
 
 // The KMAC of the record at a place that find gave, as a part of the store: 24 bytes.
@@ -96,18 +69,18 @@ pub fn kmac_at(s: &[u8], place: usize) -> &[u8]
     ensures { (result.now ≡ kmac_at s.now (place - 1)) × (length result.now ≡ 24) }
 {
     let start = KEYS_AT + RECORD * (place - 1) + 8;
-    let end = start + KMAC;
-    &s[start..end]
+    &s[start..start + KMAC]
 }
 
 // The KMAC of the record that find names; empty where find refuses.
+#[tactic(auto, using(crate::proofs::SearchLaws::find_placed, crate::proofs::SearchLaws::key_none))]
 pub fn key(s: &[u8], peer: u32, t: u32) -> &[u8]
     ensures { result.now ≡ key s.now peer t }
 {
-    let Found::At(place, _) = find(s, peer, t) else {
-        return &s[..0];
-    };
-    kmac_at(s, place)
+    match find(s, peer, t) {
+        Ok(found) => kmac_at(s, found.place),
+        Err(_) => &[],
+    }
 }
 
 // Writes the empty store of an edition into a buffer of its length.
@@ -116,25 +89,20 @@ pub fn write_empty(s: &mut [u8], lim: Limits)
     requires s_len { length s.old ≡ total lim }
     ensures { s.new ≡ encode lim [] }
 {
-    let edition = lim.edition;
-    let peers_at = KEYS_AT + RECORD * lim.keys;
     let total = s.len();
     clear(s, 0, total);
-    put_number(s, 0, edition);
+    put_number(s, 0, lim.edition);
     put_number(s, 4, KEYS_AT);
-    put_number(s, 8, peers_at);
+    put_number(s, 8, KEYS_AT + RECORD * lim.keys);
     put_number(s, 10, total);
 }
 
 // Writes the empty store of the edition that has the buffer's length, whatever stood there.
-pub fn empty(s: &mut [u8]) -> Emptied
+#[tactic(auto, using(crate::proofs::SearchLaws::edition_says), unfolding(crate::specs::Search::empty_in, crate::specs::Search::emptied))]
+pub fn empty(s: &mut [u8]) -> Result<(), Refusal>
     ensures { (emptied_as result ≡ empty_in (edition_of (length s.old))) × (s.new ≡ emptied (edition_of (length s.old)) s.old) }
 {
-    match edition_of(s.len()) {
-        Edition::Known(lim) => {
-            write_empty(s, lim);
-            Emptied::Done
-        }
-        Edition::Unknown => Emptied::Refused(Refusal::StoreLength),
-    }
+    let lim = edition_of(s.len()).ok_or(Refusal::StoreLength)?;
+    write_empty(s, lim);
+    Ok(())
 }

@@ -15,7 +15,7 @@ const OF_ISSUER: u64 = 1779033703;
 
 const OF_SERIAL: u64 = 1540483477;
 
-// The mark of a slot whose records have several fingerprints.
+// The mark of a slot whose records have several fingerprints; 0 is that of a slot without one. A byte and no enum: with a fingerprint in a variant it takes two, and a search 1,024 bytes of stack more, past what kmac.h says of it.
 const SEVERAL: u8 = 255;
 
 // A number of issuer and serial of record i, of which most have a slot, or at least a fingerprint there, of their own.
@@ -23,8 +23,9 @@ pub fn hash_at(s: &[u8], i: usize) -> u64
     requires { (i < 65536) × (record_at i + 44 ≤ length s.now) }
     ensures { result ≡ hash_of s.now i }
 {
-    let issuer = get32_at(s, KEYS_AT + RECORD * i) as u64;
-    let serial = get32_at(s, KEYS_AT + RECORD * i + 4) as u64;
+    let at = KEYS_AT + RECORD * i;
+    let issuer = u64::from(get32_at(s, at));
+    let serial = u64::from(get32_at(s, at + 4));
     issuer * OF_ISSUER + serial * OF_SERIAL
 }
 
@@ -45,21 +46,16 @@ pub fn fingerprint_of(hash: u64) -> u8
 pub fn is_suspect(mark: u8, fingerprint: u8) -> bool
     ensures { result ≡ suspect mark fingerprint }
 {
-    if mark == fingerprint {
-        return true;
-    }
-    mark == SEVERAL
+    mark == fingerprint || mark == SEVERAL
 }
 
 // The mark of a slot with one more record, of this fingerprint.
 pub fn marked(mark: u8, fingerprint: u8) -> u8
     ensures { result ≡ marked_by mark fingerprint }
 {
-    if mark == 0 {
-        return fingerprint;
+    if mark == 0 || mark == fingerprint {
+        fingerprint
+    } else {
+        SEVERAL
     }
-    if mark == fingerprint {
-        return fingerprint;
-    }
-    SEVERAL
 }

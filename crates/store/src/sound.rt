@@ -10,37 +10,26 @@ use super::{KEYS_AT, KMAC, Limits, PEER, RECORD};
 use octets::{get32_at, is_clear};
 
 // Whether the four fixed header numbers hold.
+#[tactic(auto, unfolding(crate::specs::Store::header_ok, crate::specs::Store::all_hold))]
 fn header_ok(s: &[u8], lim: Limits) -> bool
     requires bounded { Bounded lim }
     requires in_bounds { 12 ≤ length s.now }
     ensures { result ≡ header_ok lim s.now }
 {
-    let edition = lim.edition;
     let peers_at = KEYS_AT + RECORD * lim.keys;
-    let total = peers_at + PEER * lim.peers;
-    if number_at(s, 0) != edition {
-        return false;
-    }
-    if number_at(s, 4) != KEYS_AT {
-        return false;
-    }
-    if number_at(s, 8) != peers_at {
-        return false;
-    }
-    number_at(s, 10) == total
+    number_at(s, 0) == lim.edition
+        && number_at(s, 4) == KEYS_AT
+        && number_at(s, 8) == peers_at
+        && number_at(s, 10) == peers_at + PEER * lim.peers
 }
 
 // Whether both counts are in their limits.
+#[tactic(auto, unfolding(crate::specs::Store::counts_ok))]
 pub fn counts_ok(s: &[u8], lim: Limits) -> bool
     requires { 12 ≤ length s.now }
     ensures { result ≡ counts_ok lim s.now }
 {
-    let keys = lim.keys;
-    let peers = lim.peers;
-    if keys < number_at(s, 2) {
-        return false;
-    }
-    number_at(s, 6) <= peers
+    number_at(s, 2) <= lim.keys && number_at(s, 6) <= lim.peers
 }
 
 // Whether each first peer index is the sum of the counts before it, and the sum of all is the peer count.
@@ -49,20 +38,19 @@ fn sums_ok(s: &[u8]) -> bool
     ensures { result ≡ sums_ok s.now }
 {
     let n = number_at(s, 2);
-    let m = number_at(s, 6);
     let mut sum = 0;
-    let mut i = 0;
-    while i < n {
-        if number_at(s, KEYS_AT + RECORD * i + 40) != sum {
+    for i in 0..n {
+        let at = KEYS_AT + RECORD * i;
+        if number_at(s, at + 40) != sum {
             return false;
         }
-        sum += number_at(s, KEYS_AT + RECORD * i + 42);
-        i += 1;
+        sum += number_at(s, at + 42);
     }
-    sum == m
+    sum == number_at(s, 6)
 }
 
 // Whether records i and j share issuer and serial.
+// That a record lies in the bytes stands in each contract: these stores are not found sound yet, so no type can hold it.
 fn same_key(s: &[u8], i: usize, j: usize) -> bool
     requires i_bound { (i < 65536) × (record_at i + 44 ≤ length s.now) }
     requires j_bound { (j < 65536) × (record_at j + 44 ≤ length s.now) }
@@ -70,10 +58,7 @@ fn same_key(s: &[u8], i: usize, j: usize) -> bool
 {
     let a = KEYS_AT + RECORD * i;
     let b = KEYS_AT + RECORD * j;
-    if get32_at(s, a) != get32_at(s, b) {
-        return false;
-    }
-    get32_at(s, a + 4) == get32_at(s, b + 4)
+    get32_at(s, a) == get32_at(s, b) && get32_at(s, a + 4) == get32_at(s, b + 4)
 }
 
 // Whether no record before record i has its issuer and serial.
@@ -81,14 +66,7 @@ fn new_key(s: &[u8], i: usize) -> bool
     requires { (i < 65536) × (record_at i + 44 ≤ length s.now) }
     ensures { result ≡ new_key s.now i }
 {
-    let mut j = 0;
-    while j < i {
-        if same_key(s, i, j) {
-            return false;
-        }
-        j += 1;
-    }
-    true
+    !(0..i).any(|j| same_key(s, i, j))
 }
 
 // Whether no two records share issuer and serial. Only a record that its slot makes suspect is compared with those before it.
@@ -98,19 +76,15 @@ fn unique_ok(s: &[u8]) -> bool
 {
     let n = number_at(s, 2);
     let mut marks = [0u8; SLOTS];
-    let mut i = 0;
-    while i < n {
+    for i in 0..n {
         let hash = hash_at(s, i);
         let k = slot_of(hash);
         let fingerprint = fingerprint_of(hash);
         let mark = marks[k];
-        if is_suspect(mark, fingerprint) {
-            if !new_key(s, i) {
-                return false;
-            }
+        if is_suspect(mark, fingerprint) && !new_key(s, i) {
+            return false;
         }
         marks[k] = marked(mark, fingerprint);
-        i += 1;
     }
     true
 }
@@ -120,14 +94,7 @@ pub fn all_odd(s: &[u8], i: usize) -> bool
     requires { i + 24 ≤ length s.now }
     ensures { result ≡ all_odd (part s.now i 24) }
 {
-    let mut k = 0;
-    while k < KMAC {
-        if u8::count_ones(s[i + k]) % 2 != 1 {
-            return false;
-        }
-        k += 1;
-    }
-    true
+    s[i..i + KMAC].iter().all(|b| b.count_ones() % 2 == 1)
 }
 
 // Whether every KMAC byte has an odd number of ones.
@@ -136,57 +103,38 @@ fn parity_ok(s: &[u8]) -> bool
     ensures { result ≡ parity_ok s.now }
 {
     let n = number_at(s, 2);
-    let mut i = 0;
-    while i < n {
-        if !all_odd(s, KEYS_AT + RECORD * i + 8) {
-            return false;
-        }
-        i += 1;
-    }
-    true
+    (0..n).all(|i| all_odd(s, KEYS_AT + RECORD * i + 8))
 }
 
 // Whether all unused bytes are zero.
+#[tactic(auto, unfolding(crate::specs::Store::unused_ok))]
 fn unused_ok(s: &[u8], lim: Limits) -> bool
     requires bounded { Bounded lim }
     requires s_len { length s.now ≡ 12 + 44 * lim.keys + 4 * lim.peers }
     requires s_bound { (key_count s.now ≤ lim.keys) × (peer_count s.now ≤ lim.peers) }
     ensures { result ≡ unused_ok lim s.now }
 {
-    let keys = lim.keys;
-    let peers = lim.peers;
     let n = number_at(s, 2);
     let m = number_at(s, 6);
-    if !is_clear(s, KEYS_AT + RECORD * n, RECORD * (keys - n)) {
-        return false;
-    }
-    is_clear(s, KEYS_AT + RECORD * keys + PEER * m, PEER * (peers - m))
+    is_clear(s, KEYS_AT + RECORD * n, RECORD * (lim.keys - n))
+        && is_clear(
+            s,
+            KEYS_AT + RECORD * lim.keys + PEER * m,
+            PEER * (lim.peers - m),
+        )
 }
 
 // Whether the store is sound, for an edition with these limits: any bytes, of any length.
+#[tactic(auto, using(crate::proofs::SoundLaws::counts_ok_says), unfolding(crate::specs::Store::sound, crate::specs::Store::all_hold))]
 pub fn is_sound(s: &[u8], lim: Limits) -> bool
     requires { Bounded lim }
     ensures { result ≡ sound lim s.now }
 {
-    let keys = lim.keys;
-    let peers = lim.peers;
-    if s.len() != KEYS_AT + RECORD * keys + PEER * peers {
-        return false;
-    }
-    if !header_ok(s, lim) {
-        return false;
-    }
-    if !counts_ok(s, lim) {
-        return false;
-    }
-    if !sums_ok(s) {
-        return false;
-    }
-    if !unique_ok(s) {
-        return false;
-    }
-    if !parity_ok(s) {
-        return false;
-    }
-    unused_ok(s, lim)
+    s.len() == KEYS_AT + RECORD * lim.keys + PEER * lim.peers
+        && header_ok(s, lim)
+        && counts_ok(s, lim)
+        && sums_ok(s)
+        && unique_ok(s)
+        && parity_ok(s)
+        && unused_ok(s, lim)
 }

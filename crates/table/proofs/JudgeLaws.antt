@@ -1,13 +1,12 @@
 -- Set-up goes on only where Pre0 to Pre4 do not hold.
 -- Assumes nothing.
+use Rattle.std.specs.Prelude.{Ok, Err}
 use mathlib.Core.Path.{◌≡◌, refl, ap, ◌∙◌, subst}
 use mathlib.Core.Bool.{Bool}
 use mathlib.Core.List.{List}
 use Prim.Native.Nat.{ℕ}
 use native.Mathlib.Omega.{arith}
-use Rattle.units.specs.declared.Fault.{Fault}
-use Rattle.units.specs.declared.Fault.TheVariants.{Fine, Bad}
-use Rattle.units.specs.Units.{random, au3_unit, ar_unit, au1_fault, au2_fault, au3_fault, ar_fault}
+use Rattle.units.specs.Units.{Fault, random, au3_unit, ar_unit, au1_fault, au2_fault, au3_fault, ar_fault}
 use Rattle.units.proofs.Theorems.{units_are_built}
 use Rattle.table.specs.declared.Connection.{Connection}
 use Rattle.table.specs.declared.Kind.TheVariants.{Au3, Ar}
@@ -24,42 +23,42 @@ use Rattle.table.proofs.OnlyLaws.{input_of, user_is, transport_is, user_in, tran
 
 -- ---- in the square from which set-up goes on, no fault was found
 
-fine-request : (f : Fault) → (square SaConnReq IDLE (unless 0 f).when).down ≡ TConnReq → f ≡ Fine
+fine-request : (f : Fault) → (square SaConnReq IDLE (unless 0 f).when).down ≡ TConnReq → f ≡ Ok tt
 unfolding square row_in table
-fine-request Fine e = refl
-fine-request (Bad r s) e = let z : ◌≡◌ {A = ℕ} 0 1 = cc in absurd (omega arith)
+fine-request (Ok u) e = refl
+fine-request (Err x) e = let z : ◌≡◌ {A = ℕ} 0 1 = cc in absurd (omega arith)
 
-fine-au1 : (f : Fault) → (square TConnInd IDLE (unless 1 f).when).down ≡ TConnResp → f ≡ Fine
+fine-au1 : (f : Fault) → (square TConnInd IDLE (unless 1 f).when).down ≡ TConnResp → f ≡ Ok tt
 unfolding square row_in table
-fine-au1 Fine e = refl
-fine-au1 (Bad r s) e = let z : ◌≡◌ {A = ℕ} 0 1 = cc in absurd (omega arith)
+fine-au1 (Ok u) e = refl
+fine-au1 (Err x) e = let z : ◌≡◌ {A = ℕ} 0 1 = cc in absurd (omega arith)
 
-fine-au2 : (f : Fault) → (square TConnConf WFTC (unless 2 f).when).down ≡ SendAu3 → f ≡ Fine
+fine-au2 : (f : Fault) → (square TConnConf WFTC (unless 2 f).when).down ≡ SendAu3 → f ≡ Ok tt
 unfolding square row_in table
-fine-au2 Fine e = refl
-fine-au2 (Bad r s) e = let z : ◌≡◌ {A = ℕ} 0 1 = cc in absurd (omega arith)
+fine-au2 (Ok u) e = refl
+fine-au2 (Err x) e = let z : ◌≡◌ {A = ℕ} 0 1 = cc in absurd (omega arith)
 
 fine-au3 : (c : Connection) (unit : List ℕ) (s : State) → s ≡ WFAU3
-    → to_user (square AU3 s (judged_unit Au3 s c unit).when).up (judged_unit Au3 s c unit) ≡ User.ConnectIndication → au3_fault c.key c.own c.ra c.rb unit ≡ Fine
+    → to_user (square AU3 s (judged_unit Au3 s c unit).when).up (judged_unit Au3 s c unit) ≡ User.ConnectIndication → au3_fault c.key c.own c.ra c.rb unit ≡ Ok tt
 unfolding judged_unit square row_in table
 fine-au3 c unit s h e =
     go (au3_fault c.key c.own c.ra c.rb unit)
     (subst (λ (s : State). to_user (square AU3 s (judged_unit Au3 s c unit).when).up (judged_unit Au3 s c unit) ≡ User.ConnectIndication) h e)
   where
-    go : (f : Fault) → to_user (square AU3 WFAU3 (unless 3 f).when).up (unless 3 f) ≡ User.ConnectIndication → f ≡ Fine
-    go Fine e = refl
-    go (Bad r s) e = let z : ◌≡◌ {A = ℕ} 0 1 = cc in absurd (omega arith)
+    go : (f : Fault) → to_user (square AU3 WFAU3 (unless 3 f).when).up (unless 3 f) ≡ User.ConnectIndication → f ≡ Ok tt
+    go (Ok u) e = refl
+    go (Err x) e = let z : ◌≡◌ {A = ℕ} 0 1 = cc in absurd (omega arith)
 
 fine-ar : (c : Connection) (unit : List ℕ) (s : State) → s ≡ WFAR
-    → to_user (square AR s (judged_unit Ar s c unit).when).up (judged_unit Ar s c unit) ≡ User.ConnectConfirmation → ar_fault c.key c.own unit ≡ Fine
+    → to_user (square AR s (judged_unit Ar s c unit).when).up (judged_unit Ar s c unit) ≡ User.ConnectConfirmation → ar_fault c.key c.own unit ≡ Ok tt
 unfolding judged_unit square row_in table
 fine-ar c unit s h e =
     go (ar_fault c.key c.own unit)
     (subst (λ (s : State). to_user (square AR s (judged_unit Ar s c unit).when).up (judged_unit Ar s c unit) ≡ User.ConnectConfirmation) h e)
   where
-    go : (f : Fault) → to_user (square AR WFAR (unless 4 f).when).up (unless 4 f) ≡ User.ConnectConfirmation → f ≡ Fine
-    go Fine e = refl
-    go (Bad r s) e = let z : ◌≡◌ {A = ℕ} 0 1 = cc in absurd (omega arith)
+    go : (f : Fault) → to_user (square AR WFAR (unless 4 f).when).up (unless 4 f) ≡ User.ConnectConfirmation → f ≡ Ok tt
+    go (Ok u) e = refl
+    go (Err x) e = let z : ◌≡◌ {A = ℕ} 0 1 = cc in absurd (omega arith)
 
 -- ---- the events
 
@@ -68,8 +67,8 @@ unfolding asked table
 au1_sent i c h =
     let r = transport_in SaConnReq IDLE TConnReq refl i c h in
     let (b, own, peer, t, rb, store, e) = input_of SaConnReq i c r.0 in
-    let d : (square SaConnReq (state_of c.state) (unless 0 (typed b Fine)).when).down ≡ TConnReq = subst (λ (i : Input). (meets i c).down ≡ TConnReq) e h in
-    let f = typed-fine b Fine (fine-request (typed b Fine) (subst (λ (s : State). (square SaConnReq s (unless 0 (typed b Fine)).when).down ≡ TConnReq) r.1 d)) in
+    let d : (square SaConnReq (state_of c.state) (unless 0 (typed b (Ok tt))).when).down ≡ TConnReq = subst (λ (i : Input). (meets i c).down ≡ TConnReq) e h in
+    let f = typed-fine b (Ok tt) (fine-request (typed b (Ok tt)) (subst (λ (s : State). (square SaConnReq s (unless 0 (typed b (Ok tt))).when).down ≡ TConnReq) r.1 d)) in
     record {
       own = own;
       peer = peer;

@@ -107,8 +107,8 @@ user_code User.Nothing = 0
 user_code User.ConnectIndication = 1
 user_code User.ConnectConfirmation = 2
 user_code (User.DataIndication n) = 3
-user_code (User.DisconnectIndication reason sub) = 4
-user_code (User.ReportIndication reason sub) = 5
+user_code (User.DisconnectIndication why) = 4
+user_code (User.ReportIndication why) = 5
 
 up-code : (u : Up) (v : Verdict) → up_code u ≡ user_code (to_user u v)
 up-code no v = refl

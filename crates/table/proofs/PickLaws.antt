@@ -1,5 +1,6 @@
 -- In a square that is not blank, each predicate that an event can have finds its row.
 -- Assumes nothing.
+use Rattle.std.specs.Prelude.{Ok, Err}
 use mathlib.Core.Path.{◌≡◌, refl}
 use mathlib.Core.Bool.{Bool, true, false, ◌||◌, not, cond}
 use mathlib.Core.List.{List}
@@ -7,9 +8,7 @@ use Prim.Native.Nat.{ℕ}
 use lib.Dec.{eqb}
 use Rattle.refusal.specs.House.{Answer, house, gives}
 use Rattle.authentication.specs.Unit.{checked}
-use Rattle.units.specs.declared.Fault.{Fault}
-use Rattle.units.specs.declared.Fault.TheVariants.{Fine, Bad}
-use Rattle.units.specs.Units.{au1_fault, au2_fault, au3_fault, ar_fault, etcs_id, random, code, contents_code}
+use Rattle.units.specs.Units.{Fault, code, au1_fault, au2_fault, au3_fault, ar_fault, etcs_id, random, code, contents_code}
 use Rattle.table.specs.declared.Connection.{Connection}
 use Rattle.table.specs.declared.Kind.{Kind}
 use Rattle.table.specs.declared.Kind.TheVariants.{Au3, Ar, Dt}
@@ -39,8 +38,8 @@ unfolding table filled has_row
 of_ok e = tested e ok (every-event (λ e. test e ok) refl e)
 
 of_fault : (e : Event) (n : ℕ) → Picks e (pre n) → (f : Fault) → Picks e (unless n f).when
-of_fault e n p Fine = of_ok e
-of_fault e n p (Bad reason sub) = p
+of_fault e n p (Ok u) = of_ok e
+of_fault e n p (Err x) = p
 
 -- a unit that T-DATA.ind brings: in a state that waits for it its predicate, in any other none
 of_awaited : (e : Event) (b : Bool) (v w : Verdict) → Picks e v.when → Picks e w.when → Picks e (cond b v w).when
@@ -68,7 +67,7 @@ of_unit Dt s c unit =
 
 picks : (i : Input) (c : Connection) → Picks (asked i c).event (asked i c).verdict.when
 unfolding asked table filled has_row
-picks (connect_request acceptable own peer t rb store) c = of_fault SaConnReq 0 (tested SaConnReq (pre 0) refl) (typed acceptable Fine)
+picks (connect_request acceptable own peer t rb store) c = of_fault SaConnReq 0 (tested SaConnReq (pre 0) refl) (typed acceptable (Ok tt))
 picks connect_response c = of_ok SaConnResp
 picks (data_request sent) c = of_ok SaDataReq
 picks (disconnect_request reason sub) c = of_ok SaDiscReq

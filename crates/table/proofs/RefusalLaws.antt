@@ -1,5 +1,6 @@
 -- What refuses a step: the output's length, the length of user data to send, and the search where the table starts set-up.
 -- Assumes nothing.
+use Rattle.std.specs.Prelude.{Ok}
 use mathlib.Core.Path.{◌≡◌, refl, sym, ap, ◌∙◌}
 use mathlib.Core.Bool.{Bool, true, false, ◌&&◌}
 use mathlib.Core.List.{List}
@@ -13,16 +14,13 @@ use Rattle.octets.specs.Bytes.{between}
 use Rattle.octets.proofs.BoolLaws.{clash, and_both, and_false_left, and_false_right, between-true, is-between}
 use Rattle.refusal.specs.House.{house, gives}
 use Rattle.store.specs.declared.Limits.{Limits}
-use Rattle.store.specs.declared.Edition.{Edition}
-use Rattle.store.specs.declared.Edition.TheVariants.{Known, Unknown}
+use Rattle.std.specs.Prelude.{Option, Some, None}
 use Rattle.store.specs.Layout.{edition_of}
 use Rattle.store.specs.Store.{entries, sound}
 use Rattle.store.specs.Search.{Finding, place_in, or_else, chosen, find_in}
 use Rattle.store.specs.Search as Held
 use Rattle.store.proofs.Theorems.{unsound-exactly, no-key-exactly}
-use Rattle.units.specs.declared.Fault.{Fault}
-use Rattle.units.specs.declared.Fault.TheVariants.{Fine}
-use Rattle.units.specs.Units.{type_of, sender_of, random, au1_fault}
+use Rattle.units.specs.Units.{Fault, type_of, sender_of, random, au1_fault}
 use Rattle.table.specs.declared.Connection.{Connection}
 use Rattle.table.specs.declared.State.{State}
 use Rattle.table.specs.declared.State.TheVariants.{IDLE, WFTC, WFAU3}
@@ -49,24 +47,24 @@ found-numbers store own peer t n e = of_edition (edition_of (length store)) (leb
     of_tests true true false place end e = inr (inr (cc))
     of_tests true true true place end e = let z : ◌≡◌ {A = ℕ} 0 1 = cc in absurd (omega arith)
 
-    of_edition : (E : Edition) (b : Bool) → if_types b (place_in (find_in E store peer t)) ≡ house n → (n ≡ 1) ⊎ ((n ≡ 12) ⊎ (n ≡ 11))
-    of_edition Unknown b e = inl (cc)
-    of_edition (Known L) b e = of_tests (sound L store) (ltb (chosen peer t (entries L store)).place (length (entries L store))) b _ _ e
+    of_edition : (E : Option Limits) (b : Bool) → if_types b (place_in (find_in E store peer t)) ≡ house n → (n ≡ 1) ⊎ ((n ≡ 12) ⊎ (n ≡ 11))
+    of_edition None b e = inl (cc)
+    of_edition (Some L) b e = of_tests (sound L store) (ltb (chosen peer t (entries L store)).place (length (entries L store))) b _ _ e
 
 found-unfound : (store : List ℕ) (own peer t n : ℕ) → Held.find store peer t ≡ Held.unfound n → found store own peer t ≡ house n
 unfolding found
 found-unfound store own peer t n e = ap (λ (f : Finding). if_types (leb (type_of own) 7 && leb (type_of peer) 7) (place_in f)) e
 
-unknown-store : (store : List ℕ) (peer t : ℕ) → edition_of (length store) ≡ Unknown → Held.find store peer t ≡ Held.unfound 1
+unknown-store : (store : List ℕ) (peer t : ℕ) → edition_of (length store) ≡ None → Held.find store peer t ≡ Held.unfound 1
 unfolding Held.find find_in
-unknown-store store peer t e = ap (λ (E : Edition). find_in E store peer t) e
+unknown-store store peer t e = ap (λ (E : Option Limits). find_in E store peer t) e
 
 -- over a sound store a type over 7 is H11 whether a key serves or not
-type_over : (L : Limits) (store : List ℕ) (own peer t : ℕ) → edition_of (length store) ≡ Known L → sound L store ≡ true → (leb (type_of own) 7 && leb (type_of peer) 7) ≡ false
+type_over : (L : Limits) (store : List ℕ) (own peer t : ℕ) → edition_of (length store) ≡ Some L → sound L store ≡ true → (leb (type_of own) 7 && leb (type_of peer) 7) ≡ false
     → found store own peer t ≡ house 11
 unfolding found Held.find find_in
 type_over L store own peer t e s b =
-    ap (λ (b : Bool). if_types b (place_in (Held.find store peer t))) b ∙ ap (λ (E : Edition). if_types false (place_in (find_in E store peer t))) e
+    ap (λ (b : Bool). if_types b (place_in (Held.find store peer t))) b ∙ ap (λ (E : Option Limits). if_types false (place_in (find_in E store peer t))) e
     ∙ of_tests (sound L store) (ltb (chosen peer t (entries L store)).place (length (entries L store))) _ _ s
   where
     of_tests : (x y : Bool) (place end : ℕ) → x ≡ true → if_types false (place_in (or_else x 12 (or_else y 11 (Held.found place end)))) ≡ house 11
@@ -96,7 +94,7 @@ of_caller own peer t rb store =
           ap (λ (o : Outcome). o.connection) (step-performs i c out q place l refl (ap (λ (s : State). square SaConnReq s ok) e ∙ request-row) f);
     }
 
-of_called : (own t : ℕ) (ra unit store : List ℕ) → au1_fault unit ≡ Fine
+of_called : (own t : ℕ) (ra unit store : List ℕ) → au1_fault unit ≡ Ok tt
     → SearchDecides (connect_indication true own t ra unit store) (found store own (sender_of unit) t)
     (called own (sender_of unit) ra (random unit) (Held.key store (sender_of unit) t))
 unfolding asked perform

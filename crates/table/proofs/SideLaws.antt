@@ -1,38 +1,33 @@
 -- Laws of the two sides: the search and the key where set-up starts, and from the facts of the code to the contracts of Sa-CONN.req, T-CONN.ind, T-CONN.conf and Sa-CONN.resp.
 -- Assumes nothing.
+use Rattle.std.specs.Prelude.{IsOk, Result, Ok, Err}
 use mathlib.Core.Path.{◌≡◌, refl, sym, ap, ◌∙◌}
 use mathlib.Core.Bool.{Bool, true, false, ◌&&◌, not}
 use mathlib.Core.List.{List}
-use Prim.Native.Nat.{ℕ, ◌-◌, ◌≤◌, ◌<◌}
+use Prim.Native.Nat.{ℕ, ◌-◌, ◌≤◌}
 use native.Mathlib.Omega.{arith}
 use lib.Dec.{leb}
-use lib.ListN.{length, replicate}
-use borrow.Author.Tests.{le-leb, lt-leb, leb-true, eq-eqb}
-use Rattle.octets.specs.Bytes.{part, splice}
-use Rattle.octets.proofs.SpliceLaws.{splice_all}
-use Rattle.octets.proofs.PartLaws.{part-whole}
-use Rattle.octets.proofs.BoolLaws.{clash, and_false_left}
+use lib.ListN.{length}
+use borrow.Author.Tests.{leb-true, eq-eqb}
+use Rattle.octets.specs.Bytes.{splice}
+use Rattle.octets.proofs.BoolLaws.{clash}
 use Rattle.refusal.specs.declared.Refusal.{Refusal}
-use Rattle.refusal.specs.House.{Answer, house, gives, asks, unless_refused, house_number}
+use Rattle.refusal.specs.House.{Answer, house, gives, asks, house_number}
 use Rattle.store.specs.Store.{HasPlace, kmac_at}
 use Rattle.store.specs.Search.{Finding, place_in}
 use Rattle.store.specs.Search as Held
 use Rattle.store.proofs.Theorems.{whole-key}
-use Rattle.authentication.specs.declared.Derived.{Derived}
-use Rattle.authentication.specs.Keys.{session_keys, derived, Derives}
-use Rattle.units.specs.declared.Fault.{Fault}
-use Rattle.units.specs.declared.Fault.TheVariants.{Fine, Bad}
-use Rattle.units.specs.Units.{type_of, sender_of, random, au1_unit, au2_unit, au3_unit, ar_unit, di_unit, au1_fault, au2_fault, au2_fields, au2_seal, or_next}
+use Rattle.authentication.specs.Keys.{derived, Derives}
+use Rattle.units.specs.declared.Code.{Code}
+use Rattle.units.specs.Units.{Fault, code, type_of, sender_of, random, au1_unit, au2_unit, au3_unit, ar_unit, di_unit, au1_fault, au2_fault, au2_fields, au2_seal, or_next}
 use Rattle.units.proofs.UnitLaws.{length-au1, length-au2, length-au3, length-ar, length-di}
 use Rattle.units.proofs.Theorems.{two-halves}
 use Rattle.table.specs.declared.Connection.{Connection}
+use Rattle.table.specs.declared.Actions.{Actions}
 use Rattle.table.specs.declared.State.TheVariants.{IDLE, WFTC, WFAR, DATA, WFAU3, WFRESP}
-use Rattle.table.specs.declared.Stepped.{Stepped}
-use Rattle.table.specs.declared.Stepped.TheVariants as TheStepped
 use Rattle.table.specs.declared.ToUser.TheVariants as User
 use Rattle.table.specs.declared.ToTransport.TheVariants.{Quiet, TConnReq, TConnResp, TDiscReq, TDiscReqDi, SendAu3, SendAr}
 use Rattle.table.specs.declared.Timer.TheVariants.{Keep, Set, StopAll}
-use Rattle.table.specs.declared.search.Searched.{Searched}
 use Rattle.table.specs.Table.{TConnInd, TConnConf, no, SaDiscInd, to, square_of, state_code, state_of, square, row_in, table}
 use Rattle.table.specs.Steps.{idle, calling, called, confirmed, unless, typed, if_types, found, connect_request, connect_response, connect_indication, connect_confirmation, asked, carried, to_user, with_state, acts, step, Does}
 use Rattle.table.specs.Parts.{searched_as}
@@ -42,29 +37,10 @@ use Rattle.table.proofs.CallLaws.{in_state_lem, quiet_in, sent_in}
 -- ---- the search
 
 -- what it answers, in the paper's numbers
-pub searched : {r s : Searched} {a : Answer} → searched_as r ≡ a → r ≡ s → a ≡ searched_as s
+pub searched : {r s : Result ℕ Refusal} {a : Answer} → searched_as r ≡ a → r ≡ s → a ≡ searched_as s
 searched p q = sym p ∙ ap searched_as q
 
--- the types: the first is too large, or the second decides
-pub first_type_over : (own peer x : ℕ) → x ≡ type_of own → 7 < x → false ≡ (leb (type_of own) 7 && leb (type_of peer) 7)
-first_type_over own peer x e h = sym (and_false_left (leb (type_of own) 7) (leb (type_of peer) 7) (lt-leb (type_of own) 7 (omega arith)))
-
-pub second_type_decides : (own peer x y : ℕ) → x ≡ type_of own → x ≤ 7 → y ≡ type_of peer → leb y 7 ≡ (leb (type_of own) 7 && leb (type_of peer) 7)
-second_type_decides own peer x y e h f =
-    ap (λ (n : ℕ). leb n 7) f ∙ sym (ap (λ (b : Bool). b && leb (type_of peer) 7) (le-leb (type_of own) 7 (omega arith)))
-
 module _ (store : List ℕ) (own peer t : ℕ) where
-  -- what the store's search answers, and whether the types can be served
-  pub found-by : (place end : ℕ) (r b : Bool) → Held.found place end ≡ Held.find store peer t → r ≡ (leb (type_of own) 7 && leb (type_of peer) 7) → r ≡ b
-      → if_types b (gives place) ≡ found store own peer t
-  unfolding found
-  found-by place end r b e d h =
-      ap (λ (b : Bool). if_types b (gives place)) (sym h ∙ d) ∙ ap (λ (f : Finding). if_types (leb (type_of own) 7 && leb (type_of peer) 7) (place_in f)) e
-
-  pub unfound-by : (n : ℕ) → Held.unfound n ≡ Held.find store peer t → house n ≡ found store own peer t
-  unfolding found
-  unfound-by n e = ap (λ (f : Finding). if_types (leb (type_of own) 7 && leb (type_of peer) 7) (place_in f)) e
-
   -- where set-up starts, the own type has three bits
   served : (f : Finding) (a b : Bool) (n : ℕ) → if_types (a && b) (place_in f) ≡ gives n → a ≡ true
   served f true b n e = refl
@@ -101,21 +77,19 @@ module _ (store : List ℕ) (own peer t : ℕ) where
 
 -- ---- keys
 
--- a whole KMAC, copied
-pub kmac-copied : {kmac s r : List ℕ} → s ≡ kmac → length s ≡ 24 → r ≡ splice (replicate 24 0) 0 (part s 0 24) → r ≡ kmac
-kmac-copied {kmac} {s} e l w = w ∙ ap (λ (k : List ℕ). splice (replicate 24 0) 0 k) (part-whole s 24 l) ∙ splice_all (replicate 24 0) s (sym l) ∙ e
-
 -- of a whole KMAC the session keys are made
-pub keys-made : (kmac ra rb : List ℕ) {answer : Derived} {key : List ℕ} → length kmac ≡ 24 → Derives kmac ra rb answer key → key ≡ session_keys kmac ra rb
+pub keys_made : (kmac ra rb : List ℕ) (r : Result (List ℕ) Refusal) → length kmac ≡ 24 → Derives kmac ra rb r → IsOk r
 unfolding derived
-keys-made kmac ra rb l d =
-    d.made ∙ ap (λ (b : Bool). unless_refused (asks b 13 (gives 0)) (session_keys kmac ra rb) (replicate 24 0)) (eq-eqb (length kmac) 24 l)
+keys_made kmac ra rb (Ok key) l d = refl
+keys_made kmac ra rb (Err h) l d =
+    let e : house (house_number h) ≡ gives 0 = d.said ∙ ap (λ (b : Bool). asks b 13 (gives 0)) (eq-eqb (length kmac) 24 l) in
+    let z : ◌≡◌ {A = ℕ} 0 1 = cc in absurd (omega arith)
 
 -- ---- Sa-CONN.req in IDLE
 
 -- no application type, or a wrong one
-pub request_untyped : (acceptable : Bool) (own peer t : ℕ) (rb store : List ℕ) (c : Connection) (out : List ℕ) {answer : Stepped} {then : Connection} → 1032 ≤ length out
-    → state_of c.state ≡ IDLE → not acceptable ≡ true → answer ≡ TheStepped.Done (acts (User.DisconnectIndication 3 127) Quiet Keep 0) → then ≡ idle
+pub request_untyped : (acceptable : Bool) (own peer t : ℕ) (rb store : List ℕ) (c : Connection) (out : List ℕ) {answer : Result Actions Refusal} {then : Connection} → 1032 ≤ length out
+    → state_of c.state ≡ IDLE → not acceptable ≡ true → answer ≡ Ok (acts (User.DisconnectIndication (code 3 127)) Quiet Keep 0) → then ≡ idle
     → Does (step (connect_request acceptable own peer t rb store) c out) answer then out
 unfolding asked carried square row_in table
 request_untyped true own peer t rb store c out room at wrong p e = clash false wrong refl
@@ -123,8 +97,8 @@ request_untyped false own peer t rb store c out room at wrong p e =
     quiet_in (connect_request false own peer t rb store) IDLE (square_of SaDiscInd Quiet Keep (to IDLE)) c out room refl refl at refl refl refl p e
 
 -- the search refuses
-pub request-refused : (acceptable : Bool) (own peer t : ℕ) (rb store : List ℕ) (c : Connection) (out : List ℕ) (h : Refusal) {answer : Stepped} {then : Connection} → 1032 ≤ length out
-    → state_of c.state ≡ IDLE → not acceptable ≡ false → found store own peer t ≡ house (house_number h) → answer ≡ TheStepped.Refused h → then ≡ c
+pub request-refused : (acceptable : Bool) (own peer t : ℕ) (rb store : List ℕ) (c : Connection) (out : List ℕ) (h : Refusal) {answer : Result Actions Refusal} {then : Connection} → 1032 ≤ length out
+    → state_of c.state ≡ IDLE → not acceptable ≡ false → found store own peer t ≡ house (house_number h) → answer ≡ Err h → then ≡ c
     → Does (step (connect_request acceptable own peer t rb store) c out) answer then out
 unfolding asked square row_in table
 request-refused false own peer t rb store c out h room at right f p e = clash true refl right
@@ -133,9 +107,9 @@ request-refused true own peer t rb store c out h {answer} {then} room at right f
     does-refused h (step i c out) c out answer then (step-unfound i c out (square_of no TConnReq Set (to WFTC)) (house_number h) room refl (in_state_lem i c IDLE refl at) f) p e
 
 -- AU1 goes out
-pub request-sent : (acceptable : Bool) (own peer t : ℕ) (rb store : List ℕ) (c : Connection) (out : List ℕ) (n : ℕ) {answer : Stepped} {then made : Connection} {kmac written : List ℕ}
+pub request-sent : (acceptable : Bool) (own peer t : ℕ) (rb store : List ℕ) (c : Connection) (out : List ℕ) (n : ℕ) {answer : Result Actions Refusal} {then made : Connection} {kmac written : List ℕ}
     → 1032 ≤ length out → state_of c.state ≡ IDLE → not acceptable ≡ false → length rb ≡ 8 → found store own peer t ≡ gives n → kmac ≡ kmac_at store (n - 1)
-    → made ≡ calling own peer rb kmac → answer ≡ TheStepped.Done (acts User.Nothing TConnReq Set 13) → then ≡ made → written ≡ splice out 0 (au1_unit made.own made.rb)
+    → made ≡ calling own peer rb kmac → answer ≡ Ok (acts User.Nothing TConnReq Set 13) → then ≡ made → written ≡ splice out 0 (au1_unit made.own made.rb)
     → Does (step (connect_request acceptable own peer t rb store) c out) answer then written
 unfolding asked carried square row_in table
 request-sent false own peer t rb store c out n room at right l f k m p e w = clash true refl right
@@ -143,32 +117,32 @@ request-sent true own peer t rb store c out n {answer} {then} {made} {kmac} {wri
     let i = connect_request true own peer t rb store in
     let about : made ≡ calling own peer rb (Held.key store peer t) = m ∙ ap (λ (k : List ℕ). calling own peer rb k) (k ∙ sym (key-there store own peer t n f)) in
     does-performed i c out (square_of no TConnReq Set (to WFTC)) n answer then written room refl (in_state_lem i c IDLE refl at) f
-    (p ∙ ap (λ (n : ℕ). TheStepped.Done (acts User.Nothing TConnReq Set n)) (sym (length-au1 own rb l)))
+    (p ∙ ap (λ (n : ℕ). Ok (acts User.Nothing TConnReq Set n)) (sym (length-au1 own rb l)))
     (e ∙ about) (w ∙ ap (λ (m : Connection). splice out 0 (au1_unit m.own m.rb)) about)
 
 -- ---- T-CONN.ind in IDLE
 
 -- nothing is wrong: neither the application type nor the AU1
-pub typed-fine : (acceptable : Bool) (f : Fault) → typed acceptable f ≡ Fine → (acceptable ≡ true) × (f ≡ Fine)
+pub typed-fine : (acceptable : Bool) (f : Fault) → typed acceptable f ≡ Ok tt → (acceptable ≡ true) × (f ≡ Ok tt)
 typed-fine true f e = (refl, e)
 typed-fine false f e = let z : ◌≡◌ {A = ℕ} 0 1 = cc in absurd (omega arith)
 
 -- the application type, or the AU1, is wrong
-pub indication_faulty : (acceptable : Bool) (own t : ℕ) (ra unit store : List ℕ) (c : Connection) (out : List ℕ) (reason sub : ℕ) {answer : Stepped} {then : Connection} {written : List ℕ}
-    → 1032 ≤ length out → state_of c.state ≡ IDLE → typed acceptable (au1_fault unit) ≡ Bad reason sub → answer ≡ TheStepped.Done (acts User.Nothing TDiscReqDi Keep 3) → then ≡ idle
-    → written ≡ splice out 0 (di_unit true reason sub) → Does (step (connect_indication acceptable own t ra unit store) c out) answer then written
+pub indication_faulty : (acceptable : Bool) (own t : ℕ) (ra unit store : List ℕ) (c : Connection) (out : List ℕ) (why : Code) {answer : Result Actions Refusal} {then : Connection} {written : List ℕ}
+    → 1032 ≤ length out → state_of c.state ≡ IDLE → typed acceptable (au1_fault unit) ≡ Err why → answer ≡ Ok (acts User.Nothing TDiscReqDi Keep 3) → then ≡ idle
+    → written ≡ splice out 0 (di_unit true why.reason why.sub) → Does (step (connect_indication acceptable own t ra unit store) c out) answer then written
 unfolding asked carried square row_in table
-indication_faulty acceptable own t ra unit store c out reason sub room at f p e w =
+indication_faulty acceptable own t ra unit store c out why room at f p e w =
     let di : Fault → List ℕ = λ f. di_unit true (unless 1 f).why.reason (unless 1 f).why.sub in
     sent_in (connect_indication acceptable own t ra unit store) IDLE (square_of no TDiscReqDi Keep (to IDLE)) c out room refl refl at
     (ap (λ (f : Fault). square TConnInd IDLE (unless 1 f).when) f) refl
-    (p ∙ ap (λ (n : ℕ). TheStepped.Done (acts User.Nothing TDiscReqDi Keep n)) (sym (length-di true reason sub) ∙ sym (ap (λ (f : Fault). length (di f)) f)))
+    (p ∙ ap (λ (n : ℕ). Ok (acts User.Nothing TDiscReqDi Keep n)) (sym (length-di true why.reason why.sub) ∙ sym (ap (λ (f : Fault). length (di f)) f)))
     e (w ∙ sym (ap (λ (f : Fault). splice out 0 (di f)) f))
 
-module _ (own t : ℕ) (ra unit store : List ℕ) (c : Connection) (out : List ℕ) (room : 1032 ≤ length out) (at : state_of c.state ≡ IDLE) (fine : au1_fault unit ≡ Fine) where
+module _ (own t : ℕ) (ra unit store : List ℕ) (c : Connection) (out : List ℕ) (room : 1032 ≤ length out) (at : state_of c.state ≡ IDLE) (fine : au1_fault unit ≡ Ok tt) where
   -- the search refuses
-  pub indication-refused : (h : Refusal) {answer : Stepped} {then : Connection} {peer : ℕ} → peer ≡ sender_of unit → found store own peer t ≡ house (house_number h)
-      → answer ≡ TheStepped.Refused h → then ≡ c → Does (step (connect_indication true own t ra unit store) c out) answer then out
+  pub indication-refused : (h : Refusal) {answer : Result Actions Refusal} {then : Connection} {peer : ℕ} → peer ≡ sender_of unit → found store own peer t ≡ house (house_number h)
+      → answer ≡ Err h → then ≡ c → Does (step (connect_indication true own t ra unit store) c out) answer then out
   unfolding asked square row_in table
   indication-refused h {answer} {then} s f p e =
       let i = connect_indication true own t ra unit store in
@@ -179,8 +153,8 @@ module _ (own t : ℕ) (ra unit store : List ℕ) (c : Connection) (out : List �
       p e
 
   -- AU2 goes out
-  pub indication-answered : (n : ℕ) {answer : Stepped} {then made : Connection} {rb kmac written : List ℕ} {peer : ℕ} → length ra ≡ 8 → peer ≡ sender_of unit → found store own peer t ≡ gives n
-      → rb ≡ random unit → kmac ≡ kmac_at store (n - 1) → made ≡ called own peer ra rb kmac → answer ≡ TheStepped.Done (acts User.Nothing TConnResp Keep 21) → then ≡ made
+  pub indication-answered : (n : ℕ) {answer : Result Actions Refusal} {then made : Connection} {rb kmac written : List ℕ} {peer : ℕ} → length ra ≡ 8 → peer ≡ sender_of unit → found store own peer t ≡ gives n
+      → rb ≡ random unit → kmac ≡ kmac_at store (n - 1) → made ≡ called own peer ra rb kmac → answer ≡ Ok (acts User.Nothing TConnResp Keep 21) → then ≡ made
       → written ≡ splice out 0 (au2_unit made.key made.own made.peer made.ra made.rb) → Does (step (connect_indication true own t ra unit store) c out) answer then written
   unfolding asked carried square row_in table
   indication-answered n {answer} {then} {made} {rb} {kmac} {written} {peer} l s f r k m p e w =
@@ -191,7 +165,7 @@ module _ (own t : ℕ) (ra unit store : List ℕ) (c : Connection) (out : List �
       does-performed i c out (square_of no TConnResp Keep (to WFAU3)) n answer then written room refl
       (in_state_lem i c IDLE refl at ∙ ap (λ (f : Fault). square TConnInd IDLE (unless 1 f).when) fine)
       (sym (ap (λ (x : ℕ). found store own x t) s) ∙ f)
-      (p ∙ ap (λ (n : ℕ). TheStepped.Done (acts User.Nothing TConnResp Keep n)) (sym (length-au2 _ own (sender_of unit) ra (random unit) l)))
+      (p ∙ ap (λ (n : ℕ). Ok (acts User.Nothing TConnResp Keep n)) (sym (length-au2 _ own (sender_of unit) ra (random unit) l)))
       (e ∙ about) (w ∙ ap (λ (m : Connection). splice out 0 (au2_unit m.key m.own m.peer m.ra m.rb)) about)
 
 -- ---- T-CONN.conf in WFTC
@@ -204,10 +178,10 @@ abbrev seal : Connection → List ℕ → Fault
 seal m unit = au2_seal m.key m.own m.rb unit
 
 module _ (unit : List ℕ) (c : Connection) where
-  pub by-fields : (reason sub : ℕ) → au2_fields c.peer unit ≡ Bad reason sub → au2 unit c ≡ Bad reason sub
-  by-fields reason sub e = two-halves.au2 _ c.own c.peer c.rb unit ∙ ap (λ (f : Fault). or_next f (seal (confirmed c (random unit)) unit)) e
+  pub by-fields : (why : Code) → au2_fields c.peer unit ≡ Err why → au2 unit c ≡ Err why
+  by-fields why e = two-halves.au2 _ c.own c.peer c.rb unit ∙ ap (λ (f : Fault). or_next f (seal (confirmed c (random unit)) unit)) e
 
-  pub by-seal : {made : Connection} {ra : List ℕ} {f g : Fault} → au2_fields c.peer unit ≡ Fine → ra ≡ random unit → made ≡ confirmed c ra → f ≡ seal made unit → f ≡ g → au2 unit c ≡ g
+  pub by-seal : {made : Connection} {ra : List ℕ} {f g : Fault} → au2_fields c.peer unit ≡ Ok tt → ra ≡ random unit → made ≡ confirmed c ra → f ≡ seal made unit → f ≡ g → au2 unit c ≡ g
   by-seal e r m s d =
       two-halves.au2 _ c.own c.peer c.rb unit
       ∙ ap (λ (f : Fault). or_next f (seal (confirmed c (random unit)) unit)) e
@@ -217,31 +191,31 @@ module _ (unit : List ℕ) (c : Connection) where
 
 module _ (unit : List ℕ) (c : Connection) (out : List ℕ) (room : 1032 ≤ length out) (at : state_of c.state ≡ WFTC) where
   -- the AU2 is wrong
-  pub confirmation_faulty : (reason sub : ℕ) {answer : Stepped} {then : Connection} → au2 unit c ≡ Bad reason sub → answer ≡ TheStepped.Done (acts (User.DisconnectIndication reason sub) TDiscReq StopAll 0)
+  pub confirmation_faulty : (why : Code) {answer : Result Actions Refusal} {then : Connection} → au2 unit c ≡ Err why → answer ≡ Ok (acts (User.DisconnectIndication why) TDiscReq StopAll 0)
       → then ≡ idle → Does (step (connect_confirmation unit) c out) answer then out
   unfolding asked carried square row_in table
-  confirmation_faulty reason sub f p e =
+  confirmation_faulty why f p e =
       quiet_in (connect_confirmation unit) WFTC (square_of SaDiscInd TDiscReq StopAll (to IDLE)) c out room refl refl at (ap (λ (f : Fault). square TConnConf WFTC (unless 2 f).when) f) refl refl
-      (p ∙ sym (ap (λ (f : Fault). TheStepped.Done (acts (to_user SaDiscInd (unless 2 f)) TDiscReq StopAll 0)) f))
+      (p ∙ sym (ap (λ (f : Fault). Ok (acts (to_user SaDiscInd (unless 2 f)) TDiscReq StopAll 0)) f))
       e
 
   -- AU3 goes out
-  pub confirmation_answered : {answer : Stepped} {then made : Connection} {ra written : List ℕ} → au2 unit c ≡ Fine → ra ≡ random unit → made ≡ confirmed c ra
-      → answer ≡ TheStepped.Done (acts User.Nothing SendAu3 Keep 9) → then ≡ with_state made (state_code WFAR) → written ≡ splice out 0 (au3_unit made.key made.peer made.ra made.rb)
+  pub confirmation_answered : {answer : Result Actions Refusal} {then made : Connection} {ra written : List ℕ} → au2 unit c ≡ Ok tt → ra ≡ random unit → made ≡ confirmed c ra
+      → answer ≡ Ok (acts User.Nothing SendAu3 Keep 9) → then ≡ with_state made (state_code WFAR) → written ≡ splice out 0 (au3_unit made.key made.peer made.ra made.rb)
       → Does (step (connect_confirmation unit) c out) answer then written
   unfolding asked carried square row_in table
   confirmation_answered {answer} {then} {made} f r m p e w =
       let about : made ≡ confirmed c (random unit) = m ∙ ap (λ (r : List ℕ). confirmed c r) r in
       sent_in (connect_confirmation unit) WFTC (square_of no SendAu3 Keep (to WFAR)) c out room refl refl at (ap (λ (f : Fault). square TConnConf WFTC (unless 2 f).when) f) refl
-      (p ∙ ap (λ (n : ℕ). TheStepped.Done (acts User.Nothing SendAu3 Keep n)) (sym (length-au3 _ c.peer (random unit) c.rb)))
+      (p ∙ ap (λ (n : ℕ). Ok (acts User.Nothing SendAu3 Keep n)) (sym (length-au3 _ c.peer (random unit) c.rb)))
       (e ∙ ap (λ (m : Connection). with_state m (state_code WFAR)) about)
       (w ∙ ap (λ (m : Connection). splice out 0 (au3_unit m.key m.peer m.ra m.rb)) about)
 
 -- ---- Sa-CONN.resp in WFRESP: AR goes out
 
-pub response_sent : (c : Connection) (out : List ℕ) {answer : Stepped} {then : Connection} {written : List ℕ} → 1032 ≤ length out → state_of c.state ≡ WFRESP
-    → answer ≡ TheStepped.Done (acts User.Nothing SendAr Keep 9) → then ≡ with_state c (state_code DATA) → written ≡ splice out 0 (ar_unit c.key c.peer) → Does (step connect_response c out) answer then written
+pub response_sent : (c : Connection) (out : List ℕ) {answer : Result Actions Refusal} {then : Connection} {written : List ℕ} → 1032 ≤ length out → state_of c.state ≡ WFRESP
+    → answer ≡ Ok (acts User.Nothing SendAr Keep 9) → then ≡ with_state c (state_code DATA) → written ≡ splice out 0 (ar_unit c.key c.peer) → Does (step connect_response c out) answer then written
 unfolding asked carried square row_in table
 response_sent c out room at p e w =
     sent_in connect_response WFRESP (square_of no SendAr Keep (to DATA)) c out room refl refl at refl refl
-    (p ∙ ap (λ (n : ℕ). TheStepped.Done (acts User.Nothing SendAr Keep n)) (sym (length-ar c.key c.peer))) e w
+    (p ∙ ap (λ (n : ℕ). Ok (acts User.Nothing SendAr Keep n)) (sym (length-ar c.key c.peer))) e w

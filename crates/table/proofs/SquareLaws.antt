@@ -15,7 +15,7 @@ use Rattle.table.specs.declared.Connection.{Connection}
 use Rattle.table.specs.declared.Kind.{Kind}
 use Rattle.table.specs.declared.Kind.TheVariants.{Dt}
 use Rattle.table.specs.declared.State.{State}
-use Rattle.table.specs.declared.State.TheVariants.{IDLE, WFTC, WFAR, DATA, WFAU3, WFRESP}
+use Rattle.table.specs.declared.State.TheVariants.{IDLE, DATA}
 use Rattle.table.specs.declared.ToUser.TheVariants as User
 use Rattle.table.specs.declared.ToTransport.TheVariants.{Quiet, TDiscReqDi}
 use Rattle.table.specs.declared.Timer.TheVariants.{Keep}
@@ -23,7 +23,7 @@ use Rattle.table.specs.Table.{SaConnReq, TConnInd, DT, ok, pre, SaDataInd, SaDis
 use Rattle.table.specs.Steps.{Verdict, because, judged_unit, Input, connect_request, connect_response, data_request, disconnect_request, connect_indication, connect_confirmation, disconnect_indication, unit_indication, time_out, plain, kind_event, asked, sendable, carried, starts_set_up, with_state, moved, acts, Answered, done, Outcome, perform, step}
 use Rattle.table.specs.Claims.{Follows, data_answer, closing, CountedAs, unmoved, NoUnit, BlanksFollowed, ExpiryClosesNothing}
 use Rattle.table.proofs.StepLaws.{step-performs}
-use Rattle.table.proofs.TableLaws.{blank-square}
+use Rattle.table.proofs.TableLaws.{elsewhere, blank-square}
 use Rattle.table.proofs.UnitLaws.{unit_steps, error_performs, dt-reported, dt_broken, dt-accepted}
 use Rattle.table.proofs.EndLaws.{performed-follows}
 
@@ -72,21 +72,11 @@ blanks-followed =
 
 request-blank : (s : State) → (s ≡ IDLE → ⊥) → filled table SaConnReq s ≡ false
 unfolding table filled
-request-blank IDLE f = absurd (f refl)
-request-blank WFTC f = refl
-request-blank WFAR f = refl
-request-blank DATA f = refl
-request-blank WFAU3 f = refl
-request-blank WFRESP f = refl
+request-blank s f = elsewhere SaConnReq IDLE s refl f
 
 indication-blank : (s : State) → (s ≡ IDLE → ⊥) → filled table TConnInd s ≡ false
 unfolding table filled
-indication-blank IDLE f = absurd (f refl)
-indication-blank WFTC f = refl
-indication-blank WFAR f = refl
-indication-blank DATA f = refl
-indication-blank WFAU3 f = refl
-indication-blank WFRESP f = refl
+indication-blank s f = elsewhere TConnInd IDLE s refl f
 
 pub expiry_closes_nothing : ExpiryClosesNothing
 unfolding asked
@@ -115,7 +105,7 @@ module _ (c : Connection) (unit out : List ℕ) (running : c.state ≡ state_cod
   taken n e = in_row (record { when = ok; why = code 0 0; count = n }) (square_of SaDataInd Quiet Keep (to DATA)) (dt-accepted c unit n e) refl refl ∙ goes_on_lem _
 
   reported : data_answer c unit ≡ house 8
-      → step (unit_indication Dt unit) c out ≡ record { answer = done (acts (User.ReportIndication 4 1) Quiet Keep 0); connection = c; output = out }
+      → step (unit_indication Dt unit) c out ≡ record { answer = done (acts (User.ReportIndication (code 4 1)) Quiet Keep 0); connection = c; output = out }
   unfolding square row_in table perform carried
   reported e = in_row (because (pre 5) (code 4 1)) (square_of SaReportInd Quiet Keep (to DATA)) (dt-reported c unit 8 e refl refl) refl refl ∙ goes_on_lem _
 

@@ -1,7 +1,7 @@
 -- Laws of the table: each row is found; and a computed test of every row and of every blank square holds of every square that an event can meet.
 -- Assumes nothing.
 use mathlib.Core.Path.{◌≡◌, refl, sym, ap, ◌∙◌, subst, subst₂}
-use mathlib.Core.Bool.{Bool, true, false, ◌&&◌, ◌||◌, cond}
+use mathlib.Core.Bool.{Bool, true, false, ◌&&◌, ◌||◌, not, cond}
 use mathlib.Core.List.{List, [], ◌∷◌}
 use Prim.Native.Nat.{ℕ, zero, suc}
 use lib.Dec.{eqb}
@@ -132,6 +132,18 @@ row-none (row e' s' j' up down timer next ∷ rs) e s j q h = go (eqb (event_cod
     go true true z f r = clash false (sym f) refl
     go true false z f r = r f
     go false y z f r = r f
+
+-- and so is every square of an event that has rows in the state t alone, in another state
+abbrev pub alone : Event → State → Bool
+alone e t = every_state (λ s. is t s || not (filled table e s))
+
+pub elsewhere : (e : Event) (t s : State) → alone e t ≡ true → (s ≡ t → ⊥) → filled table e s ≡ false
+elsewhere e t s h other = go (is t s) (filled table e s) refl (every-state (λ s. is t s || not (filled table e s)) h s)
+  where
+    go : (x y : Bool) → is t s ≡ x → (x || not y) ≡ true → y ≡ false
+    go true y p q = absurd (other (sym (same-state t s p)))
+    go false false p q = refl
+    go false true p q = clash false q refl
 
 pub blank-square : (e : Event) (s : State) (j : Judged) → filled table e s ≡ false → square e s j ≡ blank e s
 unfolding square

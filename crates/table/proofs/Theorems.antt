@@ -1,15 +1,16 @@
 -- The claims of specs/Claims.antt, in their order; those with longer proofs are passed on from where these stand.
 -- Assumes nothing.
+use Rattle.std.specs.Prelude.{Result, Ok, Err}
 use mathlib.Core.Path.{◌≡◌, refl, ap}
 use mathlib.Core.Bool.{Bool, true, false}
 use mathlib.Core.List.{List}
 use Prim.Native.Nat.{ℕ}
+use Rattle.refusal.specs.declared.Refusal.{Refusal}
 use Rattle.refusal.proofs.Laws.{one_each, named, named_back}
 use Rattle.authentication.specs.Unit.{message, unit_of}
 use Rattle.units.specs.Units.{au3_unit, ar_unit}
-use Rattle.table.specs.declared.Stepped.{Stepped}
-use Rattle.table.specs.declared.Stepped.TheVariants as TheStepped
 use Rattle.table.specs.declared.Kind.TheVariants.{Dt}
+use Rattle.table.specs.declared.Actions.{Actions}
 use Rattle.table.specs.Steps.{kind_of, Answered, done, refused, stepped_as}
 use Rattle.table.specs.Claims.{KindOf, TableFollowed, OneAnswer}
 use Rattle.table.proofs.EndLaws.{step_follows}
@@ -39,14 +40,14 @@ table-followed = record { followed = step_follows; picked = picked }
 
 -- ---- one answer
 
-meant : Answered → Stepped
-meant (done a) = TheStepped.Done a
-meant (refused n) = TheStepped.Refused (named n)
+meant : Answered → Result Actions Refusal
+meant (done a) = Ok a
+meant (refused n) = Err (named n)
 
-meant-back : (r : Stepped) → meant (stepped_as r) ≡ r
+meant-back : (r : Result Actions Refusal) → meant (stepped_as r) ≡ r
 unfolding meant
-meant-back (TheStepped.Done a) = refl
-meant-back (TheStepped.Refused h) = ap TheStepped.Refused (named_back h)
+meant-back (Ok a) = refl
+meant-back (Err h) = ap Err (named_back h)
 
 pub one_answer : OneAnswer
 one_answer = record { of_step = one_each stepped_as meant meant-back }

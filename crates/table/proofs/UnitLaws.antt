@@ -1,5 +1,6 @@
 -- Units that T-DATA.ind brings: from the facts of the code to the contract of `unit`.
 -- Assumes nothing.
+use Rattle.std.specs.Prelude.{Result, Ok, Err}
 use mathlib.Core.Path.{◌≡◌, refl, sym, ap, ◌∙◌}
 use mathlib.Core.Bool.{Bool, true, false, not, cond}
 use mathlib.Core.List.{List, [], ◌∷◌}
@@ -10,22 +11,19 @@ use lib.Dec.{eqb}
 use lib.ListN.{length}
 use Rattle.octets.specs.Bytes.{between, splice}
 use borrow.Author.Tests.{ne_eqb, eqb-true, eqb-false, le-leb}
+use Rattle.refusal.specs.declared.Refusal.{Refusal}
 use Rattle.refusal.specs.House.{Answer, house, gives}
-use Rattle.authentication.specs.declared.Built.{Built}
-use Rattle.authentication.specs.Unit.{unit_of, built, buffer, Builds, checked, data_of}
+use Rattle.authentication.specs.Unit.{unit_of, built, buffer, built_as, Builds, checked, data_of}
 use Rattle.units.specs.declared.Code.{Code}
-use Rattle.units.specs.declared.Fault.{Fault}
-use Rattle.units.specs.declared.Fault.TheVariants.{Fine, Bad}
 use Rattle.table.specs.declared.Connection.{Connection}
-use Rattle.units.specs.Units.{mti, etcs_id, au3_fault, ar_fault, code, contents_code}
+use Rattle.table.specs.declared.Actions.{Actions}
+use Rattle.units.specs.Units.{Fault, code, mti, etcs_id, au3_fault, ar_fault, code, contents_code}
 use Rattle.table.specs.declared.Kind.{Kind}
 use Rattle.table.specs.declared.Kind.TheVariants.{Au3, Ar, Dt}
 use Rattle.table.specs.declared.State.{State}
 use Rattle.table.specs.declared.State.TheVariants.{IDLE, WFTC, WFAR, DATA, WFAU3, WFRESP}
 use Rattle.table.specs.declared.ToTransport.TheVariants.{Quiet, TDiscReqDi}
 use Rattle.table.specs.declared.Timer.TheVariants.{Keep}
-use Rattle.table.specs.declared.Stepped.{Stepped}
-use Rattle.table.specs.declared.Stepped.TheVariants as TheStepped
 use Rattle.table.specs.Table.{Square, square_of, DT, ok, pre, SaDataInd, SaDiscInd, SaReportInd, a19, to, state_code, state_of, is, protocol_error, blank, filled, square, row_in, table}
 use Rattle.table.specs.Steps.{Verdict, good, because, unless, out_of_sequence, judged_data, kind_of, plain, kind_event, judged_unit, unit_indication, asked, starts_set_up, carried, acts, to_user, after, perform, step, Outcome, up_data, handed_up, Does}
 use Rattle.table.specs.Parts.{unawaited}
@@ -44,14 +42,14 @@ unit_steps k s v q c unit out room e j f g =
     ∙ ap (λ (v : Verdict). perform q (plain (kind_event k) v c) c out) judged
 
 -- and nothing goes out to the transport, or a unit does
-pub unit-quiet : (k : Kind) (s : State) (v : Verdict) (q : Square) (c : Connection) (unit out : List ℕ) {answer : Stepped} {then : Connection} → 1032 ≤ length out → state_of c.state ≡ s
+pub unit-quiet : (k : Kind) (s : State) (v : Verdict) (q : Square) (c : Connection) (unit out : List ℕ) {answer : Result Actions Refusal} {then : Connection} → 1032 ≤ length out → state_of c.state ≡ s
     → judged_unit k s c unit ≡ v → square (kind_event k) s v.when ≡ q → starts_set_up q.down ≡ false → carried q.down (plain (kind_event k) v c) ≡ []
-    → answer ≡ TheStepped.Done (acts (to_user q.up v) q.down q.timer 0) → then ≡ after q.next c c → Does (step (unit_indication k unit) c out) answer then out
+    → answer ≡ Ok (acts (to_user q.up v) q.down q.timer 0) → then ≡ after q.next c c → Does (step (unit_indication k unit) c out) answer then out
 unit-quiet k s v q c unit out room e j f g n p a = does-quiet q (plain (kind_event k) v c) c out (unit_steps k s v q c unit out room e j f g) n p a
 
-pub unit-sent : (k : Kind) (s : State) (v : Verdict) (q : Square) (c : Connection) (unit out : List ℕ) {answer : Stepped} {then : Connection} {written : List ℕ} → 1032 ≤ length out
+pub unit-sent : (k : Kind) (s : State) (v : Verdict) (q : Square) (c : Connection) (unit out : List ℕ) {answer : Result Actions Refusal} {then : Connection} {written : List ℕ} → 1032 ≤ length out
     → state_of c.state ≡ s → judged_unit k s c unit ≡ v → square (kind_event k) s v.when ≡ q → starts_set_up q.down ≡ false
-    → answer ≡ TheStepped.Done (acts (to_user q.up v) q.down q.timer (length (carried q.down (plain (kind_event k) v c)))) → then ≡ after q.next c c
+    → answer ≡ Ok (acts (to_user q.up v) q.down q.timer (length (carried q.down (plain (kind_event k) v c)))) → then ≡ after q.next c c
     → written ≡ splice out 0 (carried q.down (plain (kind_event k) v c)) → Does (step (unit_indication k unit) c out) answer then written
 unit-sent k s v q c unit out {answer} {then} {written} room e j f g p a w =
     does-perform q (plain (kind_event k) v c) c out (step (unit_indication k unit) c out) answer then written (unit_steps k s v q c unit out room e j f g) p a w
@@ -101,15 +99,15 @@ unawaited_steps k c unit out room h j =
     error_performs k c unit out room h ∙ ap (λ (v : Verdict). perform (protocol_error (state_of c.state)) (plain (kind_event k) v c) c out) j
 
 -- what the code hands back for one: without a unit, and with one
-pub error_quiet : (k : Kind) (s : State) (c : Connection) (out : List ℕ) {r : State} {answer : Stepped} {then : Connection} → r ≡ state_of c.state → r ≡ s
+pub error_quiet : (k : Kind) (s : State) (c : Connection) (out : List ℕ) {r : State} {answer : Result Actions Refusal} {then : Connection} → r ≡ state_of c.state → r ≡ s
     → carried (protocol_error s).down (plain (kind_event k) (because ok (out_of_sequence s k)) c) ≡ []
-    → answer ≡ TheStepped.Done (acts (to_user (protocol_error s).up (because ok (out_of_sequence s k))) (protocol_error s).down (protocol_error s).timer 0)
+    → answer ≡ Ok (acts (to_user (protocol_error s).up (because ok (out_of_sequence s k))) (protocol_error s).down (protocol_error s).timer 0)
     → then ≡ after (protocol_error s).next c c → Does (unawaited k (state_of c.state) c out) answer then out
 error_quiet k s c out found told n p a =
     does-quiet (protocol_error s) (plain (kind_event k) (because ok (out_of_sequence s k)) c) c out (ap (λ (s : State). unawaited k s c out) (sym found ∙ told)) n p a
 
-pub error_sent : (k : Kind) (s : State) (c : Connection) (out : List ℕ) {r : State} {answer : Stepped} {then : Connection} {written : List ℕ} → r ≡ state_of c.state → r ≡ s
-    → answer ≡ TheStepped.Done (acts (to_user (protocol_error s).up (because ok (out_of_sequence s k))) (protocol_error s).down (protocol_error s).timer
+pub error_sent : (k : Kind) (s : State) (c : Connection) (out : List ℕ) {r : State} {answer : Result Actions Refusal} {then : Connection} {written : List ℕ} → r ≡ state_of c.state → r ≡ s
+    → answer ≡ Ok (acts (to_user (protocol_error s).up (because ok (out_of_sequence s k))) (protocol_error s).down (protocol_error s).timer
     (length (carried (protocol_error s).down (plain (kind_event k) (because ok (out_of_sequence s k)) c))))
     → then ≡ after (protocol_error s).next c c → written ≡ splice out 0 (carried (protocol_error s).down (plain (kind_event k) (because ok (out_of_sequence s k)) c))
     → Does (unawaited k (state_of c.state) c out) answer then written
@@ -207,11 +205,11 @@ error_up k WFRESP c unit out = refl
 judged-up : (k : Kind) (s : State) (n : ℕ) (f : Fault) (c : Connection) (unit out : List ℕ) → 1032 ≤ length out → state_of c.state ≡ s → judged_unit k s c unit ≡ unless n f
     → Hushed (square (kind_event k) s ok) → Hushed (square (kind_event k) s (pre n)) → [] ≡ handed_up (step (unit_indication k unit) c out).answer unit
 unfolding perform
-judged-up k s n Fine c unit out room e j a b =
+judged-up k s n (Ok u) c unit out room e j a b =
     a.mute good unit ∙ sym (ap (λ (o : Outcome). handed_up o.answer unit) (unit_steps k s good (square (kind_event k) s ok) c unit out room e j refl a.plain))
-judged-up k s n (Bad reason sub) c unit out room e j a b =
-    b.mute (because (pre n) (code reason sub)) unit
-    ∙ sym (ap (λ (o : Outcome). handed_up o.answer unit) (unit_steps k s (because (pre n) (code reason sub)) (square (kind_event k) s (pre n)) c unit out room e j refl b.plain))
+judged-up k s n (Err x) c unit out room e j a b =
+    b.mute (because (pre n) x) unit
+    ∙ sym (ap (λ (o : Outcome). handed_up o.answer unit) (unit_steps k s (because (pre n) x) (square (kind_event k) s (pre n)) c unit out room e j refl b.plain))
 
 pub au3-up : (c : Connection) (unit out : List ℕ) → 1032 ≤ length out → [] ≡ handed_up (step (unit_indication Au3 unit) c out).answer unit
 unfolding judged_unit square row_in table
@@ -271,10 +269,19 @@ dt-up c unit out room e = go (checked unit c.key (etcs_id c.own) (not c.responde
 
 -- ---- user data to send
 
--- a DT that build writes
-pub unit-built : (key destination : List ℕ) (direction : Bool) (user out : List ℕ) {after : List ℕ} {r : Built} → length key ≡ 24 → 1032 ≤ length out → between 1 1023 (length user) ≡ true
-    → Builds key destination direction user out after r → after ≡ splice out 0 (unit_of key destination direction user)
-unfolding built
-unit-built key destination direction user out k room s b =
-    let e : built key user out ≡ gives (length user + 9) = simp (k, le-leb 1032 (length out) room, s) in
-    b.written ∙ ap (λ (a : Answer). buffer a (unit_of key destination direction user) out) e
+-- a DT that build writes, and its length
+module _ (key destination : List ℕ) (direction : Bool) (user out : List ℕ) {after : List ℕ} {r : Result ℕ Refusal} (k : length key ≡ 24) (room : 1032 ≤ length out)
+    (s : between 1 1023 (length user) ≡ true) (b : Builds key destination direction user out after r) where
+  answered : (r : Result ℕ Refusal) (n : ℕ) → built_as r ≡ gives n → r ≡ Ok n
+  answered (Ok m) n e = cc
+  answered (Err h) n e = let z : ◌≡◌ {A = ℕ} 0 1 = cc in absurd (omega arith)
+
+  builds : built key user out ≡ gives (length user + 9)
+  unfolding built
+  builds = simp (k, le-leb 1032 (length out) room, s)
+
+  pub unit-long : r ≡ Ok (length user + 9)
+  unit-long = answered r (length user + 9) (b.answer ∙ builds)
+
+  pub unit-built : after ≡ splice out 0 (unit_of key destination direction user)
+  unit-built = b.written ∙ ap (λ (a : Answer). buffer a (unit_of key destination direction user) out) builds

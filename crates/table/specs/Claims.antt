@@ -1,11 +1,11 @@
 -- What is claimed of one event beside the contracts, in the order of change request 1 (document 02). Each claim holds of any connection that is handed in. proofs/Theorems.antt
 -- has a proof of each claim; what is claimed of whole runs and of two sides stands in `connections`.
 -- Assumes nothing.
-use Rattle.std.specs.Prelude.{◌≡◌, Bool, true, false, not, List, [], ◌∷◌, ◌++◌, ◌⊎◌, ℕ, ◌≤◌, ◌<◌, length}
+use Rattle.std.specs.Prelude.{◌≡◌, Result, Ok, Some, None, Bool, true, false, not, List, [], ◌∷◌, ◌++◌, ◌⊎◌, ℕ, ◌≤◌, ◌<◌, length}
 use Rattle.octets.specs.Bytes.{Bytes, part, splice}
+use Rattle.refusal.specs.declared.Refusal.{Refusal}
 use Rattle.refusal.specs.House.{Answer, house, gives}
 use Rattle.store.specs.declared.Limits.{Limits}
-use Rattle.store.specs.declared.Edition.TheVariants.{Known, Unknown}
 use Rattle.store.specs.Layout.{edition_of}
 use Rattle.store.specs.Store.{entries, sound}
 use Rattle.store.specs.Search as Held
@@ -15,11 +15,9 @@ use Rattle.authentication.specs.Mac.{mac}
 use Rattle.authentication.specs.Unit.{first_byte, message, unit_of, checked}
 use Rattle.authentication.specs.Claims.{IsBuilt}
 use Rattle.units.specs.declared.Code.{Code}
-use Rattle.units.specs.declared.Fault.TheVariants.{Fine}
 use Rattle.units.specs.Units.{type_of, etcs_id, sender_of, random, au1_unit, au2_text, au2_unit, au3_unit, ar_unit, di_unit, au1_fault, code, contents_code}
 use Rattle.table.specs.declared.Connection.{Connection}
 use Rattle.table.specs.declared.Actions.{Actions}
-use Rattle.table.specs.declared.Stepped.{Stepped}
 use Rattle.table.specs.declared.Kind.{Kind}
 use Rattle.table.specs.declared.Kind.TheVariants.{Au3, Ar, Dt}
 use Rattle.table.specs.declared.State.{State}
@@ -115,7 +113,7 @@ data_answer c unit = checked unit c.key (etcs_id c.own) (not c.responder)
 abbrev pub closing : Connection → Code → List ℕ → Outcome
 closing c why out =
     record {
-      answer = done (acts (User.DisconnectIndication why.reason why.sub) TDiscReqDi a19 3);
+      answer = done (acts (User.DisconnectIndication why) TDiscReqDi a19 3);
       connection = idle;
       output = splice out 0 (di_unit c.responder why.reason why.sub);
     }
@@ -127,7 +125,7 @@ pub record CountedAs : Type 0 where
       → step (unit_indication Dt unit) c out ≡ record { answer = done (acts (User.DataIndication n) Quiet Keep 0); connection = c; output = out }
   -- Pre5: Sa-REPORT.ind, DATA
   pub h8 : (c : Connection) (unit out : List ℕ) → c.state ≡ state_code DATA → 1032 ≤ length out → data_answer c unit ≡ house 8
-      → step (unit_indication Dt unit) c out ≡ record { answer = done (acts (User.ReportIndication 4 1) Quiet Keep 0); connection = c; output = out }
+      → step (unit_indication Dt unit) c out ≡ record { answer = done (acts (User.ReportIndication (code 4 1)) Quiet Keep 0); connection = c; output = out }
   -- Pre6
   pub h7 : (c : Connection) (unit out : List ℕ) → c.state ≡ state_code DATA → 1032 ≤ length out → data_answer c unit ≡ house 7
       → step (unit_indication Dt unit) c out ≡ closing c (code 10 5) out
@@ -203,16 +201,16 @@ pub record SearchDecides (i : Input) (search : Answer) (new : Connection) : Type
 pub record SearchRefuses : Type 0 where
   pub of_caller : (own peer t : ℕ) (rb store : List ℕ)
       → SearchDecides (connect_request true own peer t rb store) (found store own peer t) (calling own peer rb (Held.key store peer t))
-  pub of_called : (own t : ℕ) (ra unit store : List ℕ) → au1_fault unit ≡ Fine
+  pub of_called : (own t : ℕ) (ra unit store : List ℕ) → au1_fault unit ≡ Ok tt
       → SearchDecides (connect_indication true own t ra unit store) (found store own (sender_of unit) t)
       (called own (sender_of unit) ra (random unit) (Held.key store (sender_of unit) t))
   -- H1, H12, H11, in this order
-  pub h1 : (store : List ℕ) (own peer t : ℕ) → edition_of (length store) ≡ Unknown → found store own peer t ≡ house 1
-  pub h12 : (L : Limits) (store : List ℕ) (own peer t : ℕ) → edition_of (length store) ≡ Known L → sound L store ≡ false → found store own peer t ≡ house 12
-  pub h11 : (L : Limits) (store : List ℕ) (own peer t : ℕ) → edition_of (length store) ≡ Known L → sound L store ≡ true
+  pub h1 : (store : List ℕ) (own peer t : ℕ) → edition_of (length store) ≡ None → found store own peer t ≡ house 1
+  pub h12 : (L : Limits) (store : List ℕ) (own peer t : ℕ) → edition_of (length store) ≡ Some L → sound L store ≡ false → found store own peer t ≡ house 12
+  pub h11 : (L : Limits) (store : List ℕ) (own peer t : ℕ) → edition_of (length store) ≡ Some L → sound L store ≡ true
       → NoneServes (entries L store) peer t → found store own peer t ≡ house 11
   -- "H11 also if own or peer identity type is over 7"
-  pub h11_types : (L : Limits) (store : List ℕ) (own peer t : ℕ) → edition_of (length store) ≡ Known L → sound L store ≡ true
+  pub h11_types : (L : Limits) (store : List ℕ) (own peer t : ℕ) → edition_of (length store) ≡ Some L → sound L store ≡ true
       → (7 < type_of own) ⊎ (7 < type_of peer) → found store own peer t ≡ house 11
   -- no other refusal; and where a key serves and both types are at most 7, none
   pub only : (store : List ℕ) (own peer t n : ℕ) → found store own peer t ≡ house n → (n ≡ 1) ⊎ ((n ≡ 12) ⊎ (n ≡ 11))
@@ -281,4 +279,4 @@ pub record OnlyMacsShowKeys : Type 0 where
 
 -- the paper's numbers are those of one answer only: a contract that fixes them fixes the answer
 pub record OneAnswer : Type 0 where
-  pub of_step : (a b : Stepped) → stepped_as a ≡ stepped_as b → a ≡ b
+  pub of_step : (a b : Result Actions Refusal) → stepped_as a ≡ stepped_as b → a ≡ b

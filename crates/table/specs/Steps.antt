@@ -1,16 +1,15 @@
 -- What each event does (document 02, change request 1; SUBSET-037-2, 6.2.6): H2 and H10 before the table, the predicates, the search where the table starts set-up, and the square.
 -- Assumes nothing.
-use Rattle.std.specs.Prelude.{◌≡◌, Bool, true, false, ◌&&◌, not, cond, List, [], ℕ, eqb, leb, length, replicate}
+use Rattle.std.specs.Prelude.{◌≡◌, Bool, true, false, ◌&&◌, not, cond, Result, Ok, Err, List, [], ℕ, eqb, leb, length, replicate}
 use Rattle.octets.specs.Bytes.{between, part, splice}
+use Rattle.refusal.specs.declared.Refusal.{Refusal}
 use Rattle.refusal.specs.House.{Answer, house, gives, house_number}
 use Rattle.store.specs.Search.{place_in}
 use Rattle.store.specs.Search as Held
 use Rattle.authentication.specs.Keys.{session_keys}
 use Rattle.authentication.specs.Unit.{unit_of, checked}
-use Rattle.units.specs.declared.Fault.{Fault}
-use Rattle.units.specs.declared.Fault.TheVariants.{Fine, Bad}
 use Rattle.units.specs.declared.Code.{Code}
-use Rattle.units.specs.Units.{type_of, etcs_id, mti, sender_of, random, au1_unit, au2_unit, au3_unit, ar_unit, di_unit, au1_fault, au2_fault, au3_fault, ar_fault, code, contents_code, release_code}
+use Rattle.units.specs.Units.{Fault, type_of, etcs_id, mti, sender_of, random, au1_unit, au2_unit, au3_unit, ar_unit, di_unit, au1_fault, au2_fault, au3_fault, ar_fault, code, contents_code, release_code}
 use Rattle.table.specs.declared.Connection.{Connection}
 use Rattle.table.specs.declared.Kind.{Kind}
 use Rattle.table.specs.declared.Kind.TheVariants.{Au3, Ar, Dt}
@@ -20,8 +19,6 @@ use Rattle.table.specs.declared.ToTransport.{ToTransport}
 use Rattle.table.specs.declared.ToTransport.TheVariants.{Quiet, TConnReq, TConnResp, TDiscReq, TDiscReqDi, SendAu3, SendAr, SendDt}
 use Rattle.table.specs.declared.Timer.{Timer}
 use Rattle.table.specs.declared.Actions.{Actions}
-use Rattle.table.specs.declared.Stepped.{Stepped}
-use Rattle.table.specs.declared.Stepped.TheVariants as SteppedAs
 use Rattle.table.specs.declared.State.{State}
 use Rattle.table.specs.declared.State.TheVariants.{IDLE, WFTC, WFAR, DATA, WFAU3, WFRESP}
 use Rattle.table.specs.Table.{Event, SaConnReq, SaConnResp, SaDataReq, SaDiscReq, TConnInd, TConnConf, TDiscInd, AU3, AR, DT, TimeOut, Judged, ok, pre, Up, no, SaConnInd, SaConnConf, SaDataInd, SaDiscInd, SaReportInd, Next, stays, to, Square, state_code, state_of, is, square}
@@ -60,13 +57,13 @@ good = because ok (code 0 0)
 
 -- Pre n where there is a fault
 abbrev pub unless : ℕ → Fault → Verdict
-unless n Fine = good
-unless n (Bad reason sub) = because (pre n) (code reason sub)
+unless n (Ok u) = good
+unless n (Err x) = because (pre n) x
 
 -- Pre0, and the first line of Pre1: no application type, or a wrong one (Table 25; 6.3.3.5.7)
 abbrev pub typed : Bool → Fault → Fault
 typed true f = f
-typed false f = Bad 3 127
+typed false f = Err (code 3 127)
 
 -- a unit after set-up that no square waits for: Table 27, else unknown (6.3.3.5.7)
 abbrev pub replayed : Kind → Code
@@ -149,7 +146,7 @@ unfoldable pub asked : Input → Connection → Asked
 asked (connect_request acceptable own peer t rb store) c =
     record {
       event = SaConnReq;
-      verdict = unless 0 (typed acceptable Fine);
+      verdict = unless 0 (typed acceptable (Ok tt));
       search = found store own peer t;
       about = calling own peer rb (Held.key store peer t);
       sent = [];
@@ -213,8 +210,8 @@ to_user no v = User.Nothing
 to_user SaConnInd v = User.ConnectIndication
 to_user SaConnConf v = User.ConnectConfirmation
 to_user SaDataInd v = User.DataIndication v.count
-to_user SaDiscInd v = User.DisconnectIndication v.why.reason v.why.sub
-to_user SaReportInd v = User.ReportIndication v.why.reason v.why.sub
+to_user SaDiscInd v = User.DisconnectIndication v.why
+to_user SaReportInd v = User.ReportIndication v.why
 
 -- the connection in its next state; in IDLE nothing is left of it
 abbrev pub with_state : Connection → ℕ → Connection
@@ -273,8 +270,8 @@ up_data (User.DataIndication n) unit = part unit 1 n
 up_data User.Nothing unit = []
 up_data User.ConnectIndication unit = []
 up_data User.ConnectConfirmation unit = []
-up_data (User.DisconnectIndication r s) unit = []
-up_data (User.ReportIndication r s) unit = []
+up_data (User.DisconnectIndication why) unit = []
+up_data (User.ReportIndication why) unit = []
 
 abbrev pub handed_up : Answered → List ℕ → List ℕ
 handed_up (done a) unit = up_data a.user unit
@@ -283,12 +280,12 @@ handed_up (refused n) unit = []
 -- ---- the calls
 
 -- the answer in the paper's numbers
-abbrev pub stepped_as : Stepped → Answered
-stepped_as (SteppedAs.Done a) = done a
-stepped_as (SteppedAs.Refused h) = refused (house_number h)
+abbrev pub stepped_as : Result Actions Refusal → Answered
+stepped_as (Ok a) = done a
+stepped_as (Err h) = refused (house_number h)
 
 -- the answer, the connection and every byte of the output are those of an outcome
-pub record Does (o : Outcome) (answer : Stepped) (connection : Connection) (output : List ℕ) : Type 0 where
+pub record Does (o : Outcome) (answer : Result Actions Refusal) (connection : Connection) (output : List ℕ) : Type 0 where
   pub answer_is : stepped_as answer ≡ o.answer
   pub connection_is : connection ≡ o.connection
   pub output_is : output ≡ o.output

@@ -2,15 +2,16 @@
 #![tactic(auto)]
 
 ghost use Rattle.std.specs.Prelude.{◌≡◌};
-ghost use Rattle.table.specs.Steps.{idle};
+ghost use Rattle.table.specs.Table.{state_of};
+ghost use Rattle.table.specs.Steps.{idle, with_state};
 
 use refusal::Refusal;
+use units::Code;
 
 pub mod ends;
 pub mod search;
-pub mod states;
 
-// A connection. The key is the KMAC in WFTC, and the session key from then on; all is zero in IDLE.
+// A connection. The key is the KMAC in WFTC, and the session key from then on; all is zero in IDLE. The state is a byte, as C may lend any. No Debug here and in Step: it would print the key.
 #[derive(Clone, Copy)]
 pub struct Connection {
     pub state: u8,
@@ -23,7 +24,7 @@ pub struct Connection {
 }
 
 // The states, as Table 14 names them.
-#[derive(Clone, Copy)]
+#[derive(Clone, Copy, Debug, PartialEq, Eq)]
 pub enum State {
     IDLE,
     WFTC,
@@ -33,56 +34,49 @@ pub enum State {
     WFRESP,
 }
 
-// Which unit a T-DATA.indication brought.
-#[derive(Clone, Copy)]
+// Which unit a T-DATA.indication brought, with the number that a host gives it.
+#[derive(Clone, Copy, Debug, PartialEq, Eq)]
 pub enum Kind {
-    Au3,
-    Ar,
-    Dt,
+    Au3 = 1,
+    Ar = 2,
+    Dt = 3,
 }
 
-// Their numbers for a host.
-pub const AU3_NUMBER: u8 = 1;
-
-pub const AR_NUMBER: u8 = 2;
-
-pub const DT_NUMBER: u8 = 3;
-
 // The outgoing event to the user of the safe service: user data with their length, a release or a report with reason and sub-reason.
-#[derive(Clone, Copy)]
+#[derive(Clone, Copy, Debug, PartialEq, Eq)]
 pub enum ToUser {
     Nothing,
     ConnectIndication,
     ConnectConfirmation,
     DataIndication(usize),
-    DisconnectIndication(u8, u8),
-    ReportIndication(u8, u8),
+    DisconnectIndication(Code),
+    ReportIndication(Code),
 }
 
-// The outgoing event to the transport, with its unit (Table 16).
-#[derive(Clone, Copy)]
+// The outgoing event to the transport, with its unit (Table 16), and the number that a host is told.
+#[derive(Clone, Copy, Debug, PartialEq, Eq)]
 pub enum ToTransport {
-    Quiet,
-    TConnReq,
-    TConnResp,
-    TDiscReq,
-    TDiscReqDi,
-    SendAu3,
-    SendAr,
-    SendDt,
+    Quiet = 0,
+    TConnReq = 1,
+    TConnResp = 2,
+    TDiscReq = 3,
+    TDiscReqDi = 4,
+    SendAu3 = 5,
+    SendAr = 6,
+    SendDt = 7,
 }
 
-// What becomes of the timer T estab: nothing, a5, a6, a19 (Table 19).
-#[derive(Clone, Copy)]
+// What becomes of the timer T estab: nothing, a5, a6, a19 (Table 19); and the number that a host is told.
+#[derive(Clone, Copy, Debug, PartialEq, Eq)]
 pub enum Timer {
-    Keep,
-    Set,
-    Stop,
-    StopAll,
+    Keep = 0,
+    Set = 1,
+    Stop = 2,
+    StopAll = 3,
 }
 
 // What goes out, in the order of Table 20, and how many bytes of the output buffer the unit has.
-#[derive(Clone, Copy)]
+#[derive(Clone, Copy, Debug, PartialEq, Eq)]
 pub struct Actions {
     pub user: ToUser,
     pub transport: ToTransport,
@@ -90,17 +84,27 @@ pub struct Actions {
     pub written: usize,
 }
 
-#[derive(Clone, Copy)]
-pub enum Stepped {
-    Done(Actions),
-    Refused(Refusal),
-}
-
 // The answer to an event, and the connection for the next.
 #[derive(Clone, Copy)]
 pub struct Step {
-    pub answer: Stepped,
+    pub answer: Result<Actions, Refusal>,
     pub connection: Connection,
+}
+
+// The state that a code names; any code that names none is idle.
+impl From<u8> for State {
+    ghost from_gives = { λ code state. state ≡ state_of code };
+
+    fn from(code: u8) -> State {
+        match code {
+            Connection::WFTC => State::WFTC,
+            Connection::WFAR => State::WFAR,
+            Connection::DATA => State::DATA,
+            Connection::WFAU3 => State::WFAU3,
+            Connection::WFRESP => State::WFRESP,
+            _ => State::IDLE,
+        }
+    }
 }
 
 impl Connection {
@@ -134,6 +138,16 @@ impl Connection {
             ra: random,
             rb: random,
             key,
+        }
+    }
+
+    // The connection in another state.
+    pub fn entering(self, code: u8) -> Connection
+        ensures { result ≡ with_state self code }
+    {
+        Connection {
+            state: code,
+            ..self
         }
     }
 }

@@ -6,41 +6,29 @@ ghost use Rattle.table.specs.Steps.{found};
 ghost use Rattle.table.specs.Parts.{searched_as};
 
 use refusal::Refusal;
-use store::{Found, KMAC};
+use store::KMAC;
 use units::type_of;
 
 // The largest identity type: ETY has three bits.
 const TYPE_MOST: u8 = 7;
 
-// What the search answers: the record's place.
-#[derive(Clone, Copy)]
-pub enum Searched {
-    At(usize),
-    Refused(Refusal),
-}
-
 // Whether both types can be served.
 fn are_types(own: u32, peer: u32) -> bool
     ensures { result ≡ leb (type_of own) 7 && leb (type_of peer) 7 }
 {
-    if TYPE_MOST < type_of(own) {
-        return false;
-    }
-    type_of(peer) <= TYPE_MOST
+    type_of(own) <= TYPE_MOST && type_of(peer) <= TYPE_MOST
 }
 
-pub fn search(store: &[u8], own: u32, peer: u32, t: u32) -> Searched
+// The place of the record.
+#[tactic(auto, unfolding(crate::specs::Steps::found))]
+pub fn search(store: &[u8], own: u32, peer: u32, t: u32) -> Result<usize, Refusal>
     ensures { searched_as result ≡ found store.now own peer t }
 {
-    match store::find(store, peer, t) {
-        Found::At(place, _) => {
-            if are_types(own, peer) {
-                return Searched::At(place);
-            }
-            Searched::Refused(Refusal::NoKey)
-        }
-        Found::Refused(h) => Searched::Refused(h),
+    let found = store::find(store, peer, t)?;
+    if !are_types(own, peer) {
+        return Err(Refusal::NoKey);
     }
+    Ok(found.place)
 }
 
 // The KMAC at the place that was found: read there, since a second search would test the whole store again.
@@ -49,6 +37,6 @@ pub fn kmac(store: &[u8], place: usize) -> [u8; 24]
     ensures { result ≡ kmac_at store.now (place - 1) }
 {
     let mut r = [0u8; KMAC];
-    octets::copy(&mut r, 0, store::kmac_at(store, place), 0, KMAC);
+    r.copy_from_slice(store::kmac_at(store, place));
     r
 }

@@ -11,22 +11,22 @@ use borrow.Author.Tests.{eqb-true}
 use Rattle.octets.specs.Bytes.{Bytes, part, same}
 use Rattle.octets.proofs.BoolLaws.{same_true}
 use Rattle.authentication.specs.Unit.{first_byte}
-use Rattle.units.specs.declared.Fault.TheVariants.{Fine}
+use Rattle.std.specs.Prelude.{Ok}
 use Rattle.units.specs.Units.{type_of, etcs_id, sender_of, ety, mti, df, saf, random, au1_unit, au2_text, au2_mac, au2_unit, au3_mac, au3_unit, ar_mac, ar_unit, Test, test, first_fault, au1_fault, au2_fault, au2_fields, au3_fault, ar_fault}
 use Rattle.units.proofs.HeaderLaws.{first_of}
 
 -- where no test fails, the first holds and none of the others fails
-held : (b : Bool) (reason sub : ℕ) (ts : List Test) → first_fault (test b reason sub ∷ ts) ≡ Fine → (b ≡ true) × (first_fault ts ≡ Fine)
+held : (b : Bool) (reason sub : ℕ) (ts : List Test) → first_fault (test b reason sub ∷ ts) ≡ Ok tt → (b ≡ true) × (first_fault ts ≡ Ok tt)
 unfolding first_fault
 held true reason sub ts e = (refl, e)
 held false reason sub ts e = let z : ◌≡◌ {A = ℕ} 0 1 = cc in absurd (omega arith)
 
 -- the length of a unit that passed: what `sender_of`, `random_of` and `au2_seal` ask
-pub au1-long : (unit : List ℕ) → au1_fault unit ≡ Fine → length unit ≡ 13
+pub au1-long : (unit : List ℕ) → au1_fault unit ≡ Ok tt → length unit ≡ 13
 unfolding au1_fault
 au1-long unit e = eqb-true (length unit) 13 (held _ _ _ _ e).0
 
-pub au2-long : (peer : ℕ) (unit : List ℕ) → au2_fields peer unit ≡ Fine → length unit ≡ 21
+pub au2-long : (peer : ℕ) (unit : List ℕ) → au2_fields peer unit ≡ Ok tt → length unit ≡ 21
 unfolding au2_fields
 au2-long peer unit e = eqb-true (length unit) 21 (held _ _ _ _ e).0
 
@@ -76,7 +76,7 @@ module _ (unit : List ℕ) (byte : Bytes unit) where
 
 -- ---- AU1 and AU2
 
-pub au1-built : (unit : List ℕ) → Bytes unit → au1_fault unit ≡ Fine → unit ≡ au1_unit (sender_of unit) (random unit)
+pub au1-built : (unit : List ℕ) → Bytes unit → au1_fault unit ≡ Ok tt → unit ≡ au1_unit (sender_of unit) (random unit)
 unfolding au1_fault au1_unit
 au1-built unit byte e =
     let p = held _ _ _ _ e in
@@ -86,7 +86,7 @@ au1-built unit byte e =
     let l : length unit ≡ 13 = eqb-true (length unit) 13 p.0 in
     sym (take_all 13 unit (omega arith)) ∙ text_of unit byte 1 0 (omega arith) (eqb-true (mti unit) 1 q.0) (eqb-true (df unit) 0 r.0) (eqb-true (saf unit) 1 s.0)
 
-pub au2-built : (key : List ℕ) (own peer : ℕ) (rb unit : List ℕ) → Bytes unit → au2_fault key own peer rb unit ≡ Fine → unit ≡ au2_unit key peer own (random unit) rb
+pub au2-built : (key : List ℕ) (own peer : ℕ) (rb unit : List ℕ) → Bytes unit → au2_fault key own peer rb unit ≡ Ok tt → unit ≡ au2_unit key peer own (random unit) rb
 unfolding au2_fault au2_unit au2_text
 au2-built key own peer rb unit byte e =
     let p = held _ _ _ _ e in
@@ -115,7 +115,7 @@ sealed : (unit : List ℕ) (made : ℕ → List ℕ) (t m f : ℕ) → 1 ≤ len
 sealed unit made t m f l e p q r =
     apart unit l ∙ ap (λ (d : List ℕ). get_or unit 0 0 ∷ d) (sym (same_true (made (get_or unit 0 0)) (drop 1 unit) e)) ∙ ap (λ (x : ℕ). x ∷ made x) (first_of (get_or unit 0 0) t m f p q r)
 
-pub au3-built : (key : List ℕ) (own : ℕ) (ra rb unit : List ℕ) → au3_fault key own ra rb unit ≡ Fine → unit ≡ au3_unit key own ra rb
+pub au3-built : (key : List ℕ) (own : ℕ) (ra rb unit : List ℕ) → au3_fault key own ra rb unit ≡ Ok tt → unit ≡ au3_unit key own ra rb
 unfolding au3_fault au3_unit
 au3-built key own ra rb unit e =
     let p = held _ _ _ _ e in
@@ -126,7 +126,7 @@ au3-built key own ra rb unit e =
     let l : length unit ≡ 9 = eqb-true (length unit) 9 p.0 in
     sealed unit (au3_mac key own ra rb) 0 3 0 (omega arith) q.0 (eqb-true (ety unit) 0 s.0) (eqb-true (mti unit) 3 r.0) (eqb-true (df unit) 0 t.0)
 
-pub ar-built : (key : List ℕ) (own : ℕ) (unit : List ℕ) → ar_fault key own unit ≡ Fine → unit ≡ ar_unit key own
+pub ar-built : (key : List ℕ) (own : ℕ) (unit : List ℕ) → ar_fault key own unit ≡ Ok tt → unit ≡ ar_unit key own
 unfolding ar_fault ar_unit
 ar-built key own unit e =
     let p = held _ _ _ _ e in

@@ -1,15 +1,13 @@
 -- The first byte of a unit, and the identity of its sender, joined and taken apart.
 -- Assumes nothing.
 use mathlib.Core.Path.{◌≡◌, refl, ap, ap₂, ◌∙◌}
-use mathlib.Core.List.{List, []}
+use mathlib.Core.List.{[]}
 use Prim.Native.Nat.{ℕ, ◌+◌, ◌*◌, ◌/◌, ◌%◌, ◌≤◌, ◌<◌}
 use native.Mathlib.Omega.{arith}
 use lib.Bits.{bit_or, or_shifted}
-use lib.ListN.{get_or}
-use Rattle.octets.specs.Bytes.{Bytes, get32}
 use Rattle.octets.proofs.WordLaws.{get32-be32}
 use Rattle.authentication.specs.Unit.{first_byte}
-use Rattle.units.specs.Units.{type_of, sender_of}
+use Rattle.units.specs.Units.{type_of}
 
 -- ---- the first byte
 
@@ -38,14 +36,6 @@ pub first_of : (b t m f : ℕ) → b / 32 ≡ t → b / 2 % 16 ≡ m → b % 2 �
 first_of b t m f p q r = omega arith
 
 -- ---- the sender
-
-low-bytes : (a b c d : ℕ) → b < 256 → c < 256 → d < 256 → (a * 16777216 + b * 65536 + c * 256 + d) % 16777216 ≡ b * 65536 + (c * 256 + d)
-low-bytes a b c d p q r = omega arith
-
-pub sender-joined : (unit : List ℕ) (ety word : ℕ) → Bytes unit → ety ≡ get_or unit 0 0 / 32 → word ≡ get32 unit 0 → ety * 16777216 + word % 16777216 ≡ sender_of unit
-sender-joined unit ety word b e w =
-    ap₂ (λ (x y : ℕ). x * 16777216 + y % 16777216) e w
-    ∙ ap (λ (n : ℕ). get_or unit 0 0 / 32 * 16777216 + n) (low-bytes (get_or unit 0 0) (get_or unit 1 0) (get_or unit 2 0) (get_or unit 3 0) (b 1) (b 2) (b 3))
 
 -- an identity whose type is at most 7 is its type and its three bytes
 identity : (v : ℕ) → type_of v ≤ 7 → type_of v * 16777216 + (v / 65536 % 256 * 65536 + (v / 256 % 256 * 256 + v % 256)) ≡ v

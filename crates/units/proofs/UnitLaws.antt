@@ -14,7 +14,7 @@ use Rattle.octets.proofs.PartLaws.{part-whole}
 use Rattle.authentication.specs.Mac.{mac}
 use Rattle.authentication.specs.Unit.{first_byte}
 use Rattle.authentication.proofs.MacLaws.{length-mac}
-use Rattle.units.specs.declared.Fault.TheVariants.{Fine}
+use Rattle.std.specs.Prelude.{Ok}
 use Rattle.units.specs.Units.{type_of, etcs_id, sender_of, mti, df, saf, random, au1_unit, au2_text, au2_mac, au2_unit, au3_mac, au3_unit, ar_mac, ar_unit, di_unit, first_fault, au1_fault, au2_fault, au3_fault, ar_fault}
 use Rattle.units.proofs.HeaderLaws.{first-mti, first-df, sent-by}
 
@@ -45,7 +45,7 @@ module _ (own : ℕ) (rb : List ℕ) where
   unfolding au1_unit part
   au1_random l = part-whole rb 8 l
 
-  pub au1-fine : type_of own ≤ 7 → length rb ≡ 8 → au1_fault (au1_unit own rb) ≡ Fine
+  pub au1-fine : type_of own ≤ 7 → length rb ≡ 8 → au1_fault (au1_unit own rb) ≡ Ok tt
   unfolding au1_fault first_fault
   au1-fine t l = simp (length-au1 l, au1-mti t, au1-df t, au1-saf)
 
@@ -90,7 +90,7 @@ module _ (key : List ℕ) (own caller : ℕ) (ra rb : List ℕ) where
       let made = au2_mac key caller rb text in
       ap₂ (λ (x y : List ℕ). same (au2_mac key caller rb x) y) (take_at text made 13 (length-text own ra l)) (drop_at text made 13 (length-text own ra l)) ∙ same_refl made
 
-  pub au2-fine : type_of own ≤ 7 → length ra ≡ 8 → au2_fault key caller own rb (au2_unit key own caller ra rb) ≡ Fine
+  pub au2-fine : type_of own ≤ 7 → length ra ≡ 8 → au2_fault key caller own rb (au2_unit key own caller ra rb) ≡ Ok tt
   unfolding au2_fault first_fault
   au2-fine t l = simp (length-au2 l, au2-mti t, au2-sender t, eq-eqb own own refl, au2-saf, au2-mac l, au2-df t)
 
@@ -109,7 +109,7 @@ module _ (key : List ℕ) (responder : ℕ) (ra rb : List ℕ) where
   unfolding au3_unit
   au3-rest = refl
 
-  pub au3-fine : au3_fault key responder ra rb (au3_unit key responder ra rb) ≡ Fine
+  pub au3-fine : au3_fault key responder ra rb (au3_unit key responder ra rb) ≡ Ok tt
   unfolding au3_fault first_fault
   au3-fine = simp (length-au3, au3-first, au3-rest, same_refl)
 
@@ -126,7 +126,7 @@ module _ (key : List ℕ) (caller : ℕ) where
   unfolding ar_unit
   ar-rest = refl
 
-  pub ar-fine : ar_fault key caller (ar_unit key caller) ≡ Fine
+  pub ar-fine : ar_fault key caller (ar_unit key caller) ≡ Ok tt
   unfolding ar_fault first_fault
   ar-fine = simp (length-ar, ar-first, ar-rest, same_refl)
 

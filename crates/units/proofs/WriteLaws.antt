@@ -1,18 +1,17 @@
 -- What is written: a part behind another, the strings of the MACs, and the units.
 -- Assumes nothing.
 use mathlib.Core.Path.{◌≡◌, refl, sym, ap, ap₂, ◌∙◌}
-use mathlib.Core.Bool.{Bool}
 use mathlib.Core.List.{List, [], ◌∷◌, ◌++◌, append_assoc}
 use Prim.Native.Nat.{ℕ, ◌+◌, ◌≤◌}
 use native.Mathlib.Omega.{arith}
 use lib.ListN.{length, get_or, take, set, replicate, length-append, length-replicate}
 use Rattle.octets.specs.Bytes.{part, splice}
-use Rattle.octets.proofs.PartLaws.{part_length, part-whole}
+use Rattle.octets.proofs.PartLaws.{part-whole}
 use Rattle.octets.proofs.SpliceLaws.{set-splice, splice-splice, splice_all, splice_front}
 use Rattle.authentication.specs.Mac.{mac}
-use Rattle.authentication.specs.Unit.{flag, first_byte}
+use Rattle.authentication.specs.Unit.{first_byte}
 use Rattle.authentication.proofs.MacLaws.{length-mac}
-use Rattle.units.specs.Units.{type_of, etcs_id, au1_unit, au2_text, au2_mac, au2_unit, au3_mac, au3_unit, ar_mac, ar_unit, di_unit}
+use Rattle.units.specs.Units.{type_of, etcs_id, au2_text, au2_mac, au2_unit}
 
 -- ---- parts one behind the other
 
@@ -53,9 +52,6 @@ au3-string ra rb m1 m2 first la lb e1 e2 =
 
 -- ---- the units
 
-pub random-read : (unit r : List ℕ) → 13 ≤ length unit → r ≡ splice (replicate 8 0) 0 (part unit 5 8) → r ≡ part unit 5 8
-random-read unit r h e = e ∙ splice_all (replicate 8 0) (part unit 5 8) (length-replicate {A = ℕ} 8 0 ∙ sym (part_length unit 5 8 h))
-
 pub text-put : (d s t id random : List ℕ) (first own : ℕ) → 13 ≤ length d → length random ≡ 8 → id ≡ etcs_id own
     → s ≡ splice d 0 (part (first ∷ get_or id 0 0 ∷ get_or id 1 0 ∷ get_or id 2 0 ∷ 1 ∷ []) 0 5) → t ≡ splice s 5 (part random 0 8)
     → t ≡ splice d 0 (first ∷ etcs_id own ++ (1 ∷ random))
@@ -68,11 +64,6 @@ pub sealed-put : (d t made key id m : List ℕ) (first destination : ℕ) → 9 
     → t ≡ splice d 0 (first ∷ mac key (etcs_id destination) m)
 sealed-put d t made key id m first destination h e f q =
     behind-first d t made first 8 q (ap length f ∙ length-mac key id m) h ∙ ap (λ (x : List ℕ). splice d 0 (first ∷ x)) (f ∙ ap (λ (i : List ℕ). mac key i m) e)
-
-pub au1-put : (d t rb : List ℕ) (own ety first : ℕ) → ety ≡ type_of own → first ≡ first_byte ety 1 0 → t ≡ splice d 0 (first ∷ etcs_id own ++ (1 ∷ rb))
-    → t ≡ splice d 0 (au1_unit own rb)
-unfolding au1_unit
-au1-put d t rb own ety first e f q = q ∙ ap (λ (x : ℕ). splice d 0 (x ∷ etcs_id own ++ (1 ∷ rb))) (f ∙ ap (λ (y : ℕ). first_byte y 1 0) e)
 
 pub au2-sealed : (d t made key id m rb : List ℕ) (caller : ℕ) → id ≡ etcs_id caller → m ≡ take 13 d ++ (rb ++ etcs_id caller) → made ≡ mac key id m → t ≡ splice d 13 (part made 0 8)
     → t ≡ splice d 13 (au2_mac key caller rb (take 13 d))
@@ -91,18 +82,3 @@ au2-put d s t key ra rb own caller ety first h l e f p q =
     let b : take 13 s ≡ v = ap (take 13) a ∙ splice_front d v 13 n in
     q ∙ ap₂ (λ (x y : List ℕ). splice x 13 (au2_mac key caller rb y)) a b
     ∙ splice-splice d 0 v w 13 n (omega (arith, length-mac key (etcs_id caller) (v ++ (rb ++ etcs_id caller))))
-
-pub au3-put : (d t m key ra rb : List ℕ) (responder first : ℕ) → first ≡ first_byte 0 3 0 → m ≡ first ∷ rb ++ ra → t ≡ splice d 0 (first ∷ mac key (etcs_id responder) m)
-    → t ≡ splice d 0 (au3_unit key responder ra rb)
-unfolding au3_unit au3_mac
-au3-put d t m key ra rb responder first f g q =
-    q ∙ ap (λ (x : List ℕ). splice d 0 (first ∷ mac key (etcs_id responder) x)) g ∙ ap (λ (b : ℕ). splice d 0 (b ∷ mac key (etcs_id responder) (b ∷ rb ++ ra))) f
-
-pub ar-put : (d t key : List ℕ) (caller first : ℕ) → first ≡ first_byte 0 9 1 → t ≡ splice d 0 (first ∷ mac key (etcs_id caller) (first ∷ [])) → t ≡ splice d 0 (ar_unit key caller)
-unfolding ar_unit ar_mac
-ar-put d t key caller first f q = q ∙ ap (λ (b : ℕ). splice d 0 (b ∷ mac key (etcs_id caller) (b ∷ []))) f
-
-pub di-put : (d t : List ℕ) (responder : Bool) (reason sub df first : ℕ) → df ≡ flag responder → first ≡ first_byte 0 8 df → t ≡ splice d 0 (part (first ∷ reason ∷ sub ∷ []) 0 3)
-    → t ≡ splice d 0 (di_unit responder reason sub)
-unfolding di_unit part
-di-put d t responder reason sub df first e f q = q ∙ ap (λ (b : ℕ). splice d 0 (b ∷ reason ∷ sub ∷ [])) (f ∙ ap (first_byte 0 8) e)

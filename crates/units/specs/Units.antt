@@ -1,12 +1,10 @@
 -- The units of connection set-up, byte by byte (SUBSET-037-2, 6.2.5, Tables 7 to 13), the MAC of each (6.2.3.2.1.9 to .11), and what is judged of a received one (Table 17), with reason and sub-reason (6.3.3.5).
 -- Assumes nothing.
-use Rattle.std.specs.Prelude.{Bool, ◌&&◌, cond, List, [], ◌∷◌, ◌++◌, ℕ, ◌+◌, ◌*◌, ◌/◌, ◌%◌, eqb, leb, length, get_or, take, drop}
+use Rattle.std.specs.Prelude.{Bool, ◌&&◌, cond, Result, Ok, Err, List, [], ◌∷◌, ◌++◌, ℕ, ◌+◌, ◌*◌, ◌/◌, ◌%◌, eqb, leb, length, get_or, take, drop}
 use Rattle.octets.specs.Bytes.{part, same}
 use Rattle.authentication.specs.Mac.{mac}
 use Rattle.authentication.specs.Unit.{flag, first_byte}
 use Rattle.units.specs.declared.Code.{Code}
-use Rattle.units.specs.declared.Fault.{Fault}
-use Rattle.units.specs.declared.Fault.TheVariants.{Fine, Bad}
 
 -- ---- identities: four bytes, the type and the three of the ETCS ID
 
@@ -72,14 +70,23 @@ ar_unit key caller = first_byte 0 9 1 ∷ ar_mac key caller (first_byte 0 9 1)
 unfoldable pub di_unit : Bool → ℕ → ℕ → List ℕ
 di_unit responder reason sub = first_byte 0 8 (flag responder) ∷ reason ∷ sub ∷ []
 
+-- ---- a reason and a sub-reason
+
+abbrev pub code : ℕ → ℕ → Code
+code reason sub = record { reason = reason; sub = sub }
+
+-- what is wrong with a unit: nothing, or a reason and a sub-reason
+abbrev pub Fault : Type 0
+Fault = Result Unit Code
+
 -- ---- a received unit: the first test that fails gives reason and sub-reason
 
 pub data Test : Type 0 where
   test : (passed : Bool) (reason sub : ℕ) → Test
 
 unfoldable pub first_fault : List Test → Fault
-first_fault [] = Fine
-first_fault (test b reason sub ∷ ts) = cond b (first_fault ts) (Bad reason sub)
+first_fault [] = Ok tt
+first_fault (test b reason sub ∷ ts) = cond b (first_fault ts) (Err (code reason sub))
 
 -- Pre1: an AU1 has no MAC; every ETY is a type from 0 to 7
 unfoldable pub au1_fault : List ℕ → Fault
@@ -118,8 +125,8 @@ au2_seal key own rb unit = first_fault (seal_tests key own rb unit)
 
 -- the first fault where there is one, else the second
 abbrev pub or_next : Fault → Fault → Fault
-or_next Fine f = f
-or_next (Bad reason sub) f = Bad reason sub
+or_next (Ok u) f = f
+or_next (Err x) f = Err x
 
 -- Pre3
 unfoldable pub au3_fault : List ℕ → ℕ → List ℕ → List ℕ → List ℕ → Fault
@@ -143,10 +150,7 @@ ar_fault key own unit =
     ∷ test (eqb (df unit) 1) 6 1
     ∷ [])
 
--- ---- a reason and a sub-reason
-
-abbrev pub code : ℕ → ℕ → Code
-code reason sub = record { reason = reason; sub = sub }
+-- ---- reason and sub-reason of other units
 
 -- what is wrong with a DT that `checked` refuses with H9: no user data; MTI or ETY; or the flag, which should be the one that is not ours
 unfoldable pub contents_code : Bool → List ℕ → Code

@@ -27,11 +27,7 @@ pub const TO_INITIATOR: u8 = 1;
 pub fn flag(responder: bool) -> u8
     ensures { (result ≡ flagOf responder) × (result < 2) }
 {
-    if responder {
-        TO_INITIATOR
-    } else {
-        TO_RESPONDER
-    }
+    u8::from(responder)
 }
 
 // The three fields joined.

@@ -20,10 +20,8 @@ fn vector(key: [u8; 8], plain: [u8; 8]) {
 fn variable_plaintext() {
     line(b"variable plaintext");
     let ones = [1u8; 8];
-    let mut i: u64 = 0;
-    while i < 64 {
+    for i in 0..64u64 {
         vector(ones, des::store(0x8000_0000_0000_0000 >> i));
-        i += 1;
     }
 }
 
@@ -31,10 +29,8 @@ fn variable_plaintext() {
 fn variable_key() {
     line(b"variable key");
     let zero = [0u8; 8];
-    let mut i: usize = 0;
-    while i < 56 {
+    for i in 0..56 {
         vector(one_bit(i), zero);
-        i += 1;
     }
 }
 
@@ -50,21 +46,15 @@ fn one_bit(i: usize) -> [u8; 8] {
 fn permutation_operation() {
     line(b"permutation operation");
     let zero = [0u8; 8];
-    let keys = PERMUTATION;
-    let mut i: usize = 0;
-    while i < 32 {
-        vector(des::store(keys[i]), zero);
-        i += 1;
+    for key in PERMUTATION {
+        vector(des::store(key), zero);
     }
 }
 
 fn substitution_table() {
     line(b"substitution table");
-    let pairs = SUBSTITUTION;
-    let mut i: usize = 0;
-    while i < 38 {
-        vector(des::store(pairs[i]), des::store(pairs[i + 1]));
-        i += 2;
+    for (key, plain) in SUBSTITUTION {
+        vector(des::store(key), des::store(plain));
     }
 }
 

@@ -29,28 +29,32 @@ pub fn number(n: usize) {
     io::print_decimal(STANDARD_OUTPUT, n as u64);
 }
 
+// What a call answers: a length, or the refusal.
+pub fn answer(a: Result<usize, Refusal>) {
+    match a {
+        Ok(n) => number(n),
+        Err(h) => refused(h),
+    }
+}
+
 pub fn refused(h: Refusal) {
     io::write_all(STANDARD_OUTPUT, b"H");
-    io::print_decimal(STANDARD_OUTPUT, refusal::house_number(h) as u64);
+    io::print_decimal(STANDARD_OUTPUT, u64::from(u8::from(h)));
 }
 
 // n bytes, byte i being (seed + 37 i) mod 256.
 pub fn pattern(d: &mut [u8], seed: u8) {
     let mut x = seed;
-    let mut i: usize = 0;
-    while i < d.len() {
-        d[i] = x;
+    for b in d {
+        *b = x;
         x = x.wrapping_add(37);
-        i += 1;
     }
 }
 
 // The first n bytes of s, or all where there are fewer.
+// As in the console: programs share no crate of their own, and the module has no use for it.
 pub fn front(s: &[u8], n: usize) -> &[u8] {
-    if n <= s.len() {
-        return &s[..n];
-    }
-    s
+    &s[..n.min(s.len())]
 }
 
 // The key and the destination of every unit here.

@@ -1,13 +1,5 @@
 // Units refused and accepted, and builds refused (document 01, "Numbers to work by hand").
-use crate::text::{destination, end, front, key, line, number, pattern, refused, space};
-use authentication::{Built, Checked};
-
-fn answer(c: Checked) {
-    match c {
-        Checked::Accepted(n) => number(n),
-        Checked::Refused(h) => refused(h),
-    }
-}
+use crate::text::{answer, destination, end, front, key, line, pattern, space};
 
 fn check_with(unit: &[u8], k: &[u8], d: [u8; 3], direction: bool) {
     answer(authentication::check(unit, k, d, direction));
@@ -25,7 +17,7 @@ fn sample() -> [u8; 19] {
     pattern(&mut user, 5);
     let mut out = [0u8; 1032];
     let k = key();
-    authentication::build(&k, destination(), true, &user, &mut out);
+    let _ = authentication::build(&k, destination(), true, &user, &mut out);
     let mut unit = [0u8; 19];
     octets::copy(&mut unit, 0, &out, 0, 19);
     unit
@@ -41,6 +33,7 @@ fn flipped(unit: [u8; 19], i: usize) -> [u8; 19] {
 }
 
 // A message of one byte with its MAC.
+// Two sizes, here and in `sealed`: an array of N + 8 bytes can't be named for a const N.
 fn one_byte(first: u8) -> [u8; 9] {
     let m: [u8; 1] = [first];
     let mac = authentication::mac(key(), destination(), &m);
@@ -119,11 +112,9 @@ fn damaged_at(i: usize) {
 pub fn damaged() {
     line(b"damaged");
     damaged_at(0);
-    let mut i: usize = 1;
-    while i < 19 {
+    for i in 1..19 {
         space();
         damaged_at(i);
-        i += 1;
     }
     end();
 }
@@ -131,10 +122,7 @@ pub fn damaged() {
 // ---- builds
 
 fn build(k: &[u8], user: &[u8], out: &mut [u8]) {
-    match authentication::build(k, destination(), false, user, out) {
-        Built::Written(n) => number(n),
-        Built::Refused(h) => refused(h),
-    }
+    answer(authentication::build(k, destination(), false, user, out));
     end();
 }
 

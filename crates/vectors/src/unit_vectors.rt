@@ -1,8 +1,7 @@
 // 002 Annex B step by step, session keys, and units built and checked.
 use crate::text::{
-    byte, destination, end, front, key, line, number, pattern, refused, space, word,
+    answer, byte, destination, end, front, key, line, number, pattern, refused, space, word,
 };
-use authentication::{Built, Checked, Derived};
 
 // E under K1 of each block chained, D under K2, E under K3 (002, B.1.1.10).
 pub fn annex_b() {
@@ -27,10 +26,8 @@ fn step(keys: [u64; 16], x: u64) -> u64 {
 // ---- session keys
 
 fn bytes(s: &[u8]) {
-    let mut i: usize = 0;
-    while i < s.len() {
-        byte(s[i]);
-        i += 1;
+    for b in s {
+        byte(*b);
     }
     end();
 }
@@ -40,14 +37,9 @@ fn derived_key(kmac: &[u8], n: u8) {
     pattern(&mut ra, 100u8.wrapping_add(n));
     let mut rb = [0u8; 8];
     pattern(&mut rb, 200u8.wrapping_add(n));
-    let keys = authentication::session_keys(kmac, ra, rb);
-    let answer = keys.answer;
-    match answer {
-        Derived::Made => {
-            let k = keys.key;
-            bytes(&k);
-        }
-        Derived::Refused(h) => {
+    match authentication::session_keys(kmac, ra, rb) {
+        Ok(keys) => bytes(&keys),
+        Err(h) => {
             refused(h);
             end();
         }
@@ -57,11 +49,9 @@ fn derived_key(kmac: &[u8], n: u8) {
 pub fn derived_keys() {
     line(b"session keys");
     let mut kmac = [0u8; 25];
-    let mut n: u8 = 0;
-    while n < 5 {
+    for n in 0..5 {
         pattern(&mut kmac, n);
         derived_key(front(&kmac, 24), n);
-        n += 1;
     }
     pattern(&mut kmac, 0);
     derived_key(front(&kmac, 23), 0);
@@ -83,36 +73,30 @@ fn unit_contents(unit: &[u8], direction: bool) {
     word(octets::get64_at(unit, n - 8));
     space();
     let k = key();
-    match authentication::check(unit, &k, destination(), direction) {
-        Checked::Accepted(d) => number(d),
-        Checked::Refused(h) => refused(h),
-    }
+    answer(authentication::check(unit, &k, destination(), direction));
 }
 
 fn unit_line(n: usize, seed: u8, direction: bool) {
     number(n);
     space();
-    number(if direction { 1 } else { 0 });
+    number(usize::from(direction));
     space();
     let mut user = [0u8; 1023];
     pattern(&mut user, seed);
     let mut out = [0u8; 1032];
     let k = key();
     match authentication::build(&k, destination(), direction, front(&user, n), &mut out) {
-        Built::Written(m) => unit_contents(front(&out, m), direction),
-        Built::Refused(h) => refused(h),
+        Ok(m) => unit_contents(front(&out, m), direction),
+        Err(h) => refused(h),
     }
     end();
 }
 
 pub fn units() {
     line(b"units");
-    let lengths: [usize; 12] = [1, 2, 3, 4, 10, 11, 12, 114, 1018, 1019, 1020, 1023];
-    let seeds: [u8; 12] = [1, 2, 3, 4, 10, 11, 12, 114, 250, 251, 252, 255];
-    let mut i: usize = 0;
-    while i < 12 {
-        unit_line(lengths[i], seeds[i], false);
-        unit_line(lengths[i], seeds[i], true);
-        i += 1;
+    // Each length, and the seed of its user data: the length's lowest byte.
+    for n in [1, 2, 3, 4, 10, 11, 12, 114, 1018, 1019, 1020, 1023] {
+        unit_line(n, (n % 256) as u8, false);
+        unit_line(n, (n % 256) as u8, true);
     }
 }

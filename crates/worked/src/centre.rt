@@ -1,11 +1,7 @@
 // The key centre: sends each command in a session of its own, and prints what the reply says.
 use crate::print::answered;
-use crate::wire::{
-    CENTRE, Key, OWN, command, front, header, identifier, k_struct, peers, period, word,
-};
-use message::MESSAGE_MOST;
-use message::written::{HEAD, put_init};
-use session::{Begun, Session};
+use crate::wire::{CENTRE, DELETE_ALL_KEYS, Key, Message, OWN};
+use session::Session;
 
 pub const ISSUER: u32 = 0x01020304;
 
@@ -15,21 +11,6 @@ pub const OTHER: u32 = 0x55667788;
 
 // A word of a KMAC of odd parity.
 const ODD: u32 = 0x01010101;
-
-// Message types (000, 5.3.3).
-pub const ADD_KEYS: u8 = 0;
-
-pub const DELETE_KEYS: u8 = 1;
-
-pub const DELETE_ALL_KEYS: u8 = 2;
-
-const UPDATE_KEY_VALIDITIES: u8 = 3;
-
-const UPDATE_KEY_ENTITIES: u8 = 4;
-
-pub const END_OF_UPDATE: u8 = 10;
-
-pub const RESERVED: u8 = 200;
 
 // The numbers of the two session inits, and of the first command.
 const OWN_START: u16 = 9;
@@ -41,12 +22,9 @@ pub const FIRST: u16 = CENTRE_START + 1;
 // The length of a message with no body.
 pub const LENGTH: u32 = 20;
 
-// The length of the least output buffer.
-const OUTPUT: usize = 1032;
-
 // Makes the buffer the empty store of its length.
 pub fn fresh(s: &mut [u8]) {
-    store::empty(s);
+    let _ = store::empty(s);
 }
 
 // ---- sessions
@@ -54,8 +32,8 @@ pub fn fresh(s: &mut [u8]) {
 // A waiting session; a closed one where begin refuses.
 fn begun(out: &mut [u8]) -> Session {
     match Session::begin(OWN, CENTRE, OWN_START, out) {
-        Begun::Made(made, _) => made,
-        Begun::Refused(_) => Session {
+        Ok((made, _)) => made,
+        Err(_) => Session {
             state: Session::CLOSED,
             own: OWN,
             peer: CENTRE,
@@ -69,36 +47,24 @@ fn begun(out: &mut [u8]) -> Session {
 
 // A session that the centre's session init with this number opens.
 pub fn opened(number: u16, s: &mut [u8]) -> Session {
-    let mut init = [0u8; HEAD];
-    put_init(&mut init, CENTRE, OWN, number);
-    let mut out = [0u8; OUTPUT];
-    let session = begun(&mut out);
-    let turn = session.receive(&init, s, &mut out);
+    let mut out = [0; Session::OUTPUT_LEAST];
+    let init = Message::init(number);
+    begun(&mut out)
+        .receive(init.as_slice(), s, &mut out)
+        .session
+}
+
+// Delivers a message, prints the answer, and gives the session for the next.
+pub fn deliver(name: &[u8], session: Session, m: &Message, s: &mut [u8]) -> Session {
+    let mut out = [0; Session::OUTPUT_LEAST];
+    let turn = session.receive(m.as_slice(), s, &mut out);
+    answered(name, turn.answer, &out);
     turn.session
 }
 
-// Delivers the first n bytes of m, prints the answer, and gives the session for the next.
-pub fn deliver(
-    name: &[u8],
-    session: Session,
-    m: &[u8; MESSAGE_MOST],
-    n: usize,
-    s: &mut [u8],
-) -> Session {
-    let mut out = [0u8; OUTPUT];
-    let turn = session.receive(front(m, n), s, &mut out);
-    let answer = turn.answer;
-    answered(name, answer, &out);
-    turn.session
-}
-
-// Sends a message of n bytes, whose length is still to be written, in a session of its own.
-fn send(name: &[u8], s: &mut [u8], m: &mut [u8; MESSAGE_MOST], n: usize) {
-    if MESSAGE_MOST < n {
-        return;
-    }
-    word(m, 0, n as u32);
-    deliver(name, opened(CENTRE_START, s), m, n, s);
+// Sends a message in a session of its own.
+fn send(name: &[u8], s: &mut [u8], m: &Message) {
+    deliver(name, opened(CENTRE_START, s), &m.whole(), s);
 }
 
 // ---- commands
@@ -117,25 +83,9 @@ pub fn key(serial: u32, count: u16) -> Key {
     }
 }
 
-// The requests for n keys: the first, and each next with a serial higher by step.
-fn k_structs(m: &mut [u8; MESSAGE_MOST], i: usize, first: Key, n: u16, step: u32) -> usize {
-    let mut key = first;
-    let mut at = i;
-    let mut k: u16 = 0;
-    while k < n {
-        at = k_struct(m, at, key);
-        key.serial = key.serial.wrapping_add(step);
-        k += 1;
-    }
-    at
-}
-
-// One message with those n requests.
+// One message for n keys: the first, and each next with a serial higher by step.
 pub fn add_keys(name: &[u8], s: &mut [u8], first: Key, n: u16, step: u32) {
-    let mut m = [0u8; MESSAGE_MOST];
-    let i = command(&mut m, FIRST, ADD_KEYS, n);
-    let size = k_structs(&mut m, i, first, n, step);
-    send(name, s, &mut m, size);
+    send(name, s, &Message::add(FIRST, first, n, step));
 }
 
 pub fn add(name: &[u8], s: &mut [u8], serial: u32, count: u16) {
@@ -143,27 +93,24 @@ pub fn add(name: &[u8], s: &mut [u8], serial: u32, count: u16) {
 }
 
 pub fn delete(name: &[u8], s: &mut [u8], issuer: u32, serial: u32) {
-    let mut m = [0u8; MESSAGE_MOST];
-    let i = command(&mut m, FIRST, DELETE_KEYS, 1);
-    let n = identifier(&mut m, i, issuer, serial);
-    send(name, s, &mut m, n);
+    send(name, s, &Message::delete(FIRST, issuer, serial));
 }
 
 pub fn validity(name: &[u8], s: &mut [u8], serial: u32, start: u32, end: u32) {
-    let mut m = [0u8; MESSAGE_MOST];
-    let i = command(&mut m, FIRST, UPDATE_KEY_VALIDITIES, 1);
-    let period_at = identifier(&mut m, i, ISSUER, serial);
-    let n = period(&mut m, period_at, start, end);
-    send(name, s, &mut m, n);
+    send(
+        name,
+        s,
+        &Message::validity(FIRST, ISSUER, serial, start, end),
+    );
 }
 
 // Replaces the peers by so many of this one.
 pub fn entities(name: &[u8], s: &mut [u8], serial: u32, peer: u32, count: u16) {
-    let mut m = [0u8; MESSAGE_MOST];
-    let i = command(&mut m, FIRST, UPDATE_KEY_ENTITIES, 1);
-    let peers_at = identifier(&mut m, i, ISSUER, serial);
-    let n = peers(&mut m, peers_at, peer, count);
-    send(name, s, &mut m, n);
+    send(
+        name,
+        s,
+        &Message::entities(FIRST, ISSUER, serial, peer, count),
+    );
 }
 
 // A message with no body: delete all keys.
@@ -175,7 +122,7 @@ pub fn delete_all(
     number: u16,
     s: &mut [u8],
 ) -> Session {
-    let mut m = [0u8; MESSAGE_MOST];
-    let n = header(&mut m, length, receiver, number, DELETE_ALL_KEYS);
-    deliver(name, session, &m, n, s)
+    let mut m = Message::header(receiver, number, DELETE_ALL_KEYS);
+    m.set_length(length);
+    deliver(name, session, &m, s)
 }

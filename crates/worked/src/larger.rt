@@ -3,9 +3,9 @@ use crate::centre::{
     ISSUER, LENGTH, OTHER, PEER, add, add_keys, delete, delete_all, entities, fresh, key, opened,
     validity,
 };
-use crate::print::{counts, found, header, nonzero};
+use crate::print::{counts, found, front, header, nonzero};
 use crate::transactions::transactions;
-use crate::wire::{Key, OWN, front};
+use crate::wire::{Key, OWN};
 use store::KEYS_AT;
 
 // ---- limits
@@ -13,11 +13,9 @@ use store::KEYS_AT;
 // So many messages of 50 keys each, from this serial on.
 fn fifties(name: &[u8], s: &mut [u8], first: u32, n: u32) {
     let mut serial = first;
-    let mut k: u32 = 0;
-    while k < n {
+    for _ in 0..n {
         add_keys(name, s, key(serial, 8), 50, 1);
         serial = serial.wrapping_add(50);
-        k += 1;
     }
 }
 
@@ -36,15 +34,13 @@ fn latest_end(s: &mut [u8]) {
     found(b"the peer then:", s, PEER, 8);
 }
 
-fn key_for_other() -> Key {
-    let mut last = key(501, 8);
-    last.peer = OTHER;
-    last
-}
-
 fn tenth_key(s: &mut [u8]) {
     delete(b"delete the tenth:", s, ISSUER, 10);
-    add_keys(b"add for another:", s, key_for_other(), 1, 0);
+    let last = Key {
+        peer: OTHER,
+        ..key(501, 8)
+    };
+    add_keys(b"add for another:", s, last, 1, 0);
     found(b"the other:", s, OTHER, 8);
     counts(s);
 }
@@ -79,9 +75,9 @@ fn searches(s: &[u8]) {
 // ---- header and length
 
 // Writes a header over the buffer's.
-fn headed(s: &mut [u8], bytes: [u8; 12]) {
+fn headed(s: &mut [u8], bytes: [u8; KEYS_AT]) {
     if KEYS_AT <= s.len() {
-        octets::copy(s, 0, &bytes, 0, KEYS_AT);
+        s[..KEYS_AT].copy_from_slice(&bytes);
     }
 }
 

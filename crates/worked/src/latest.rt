@@ -1,14 +1,17 @@
 // The cases of change request 7 (document 02): of the keys that fit, the first with the latest end is taken.
 use crate::centre::{ISSUER, OTHER, PEER, add_keys, delete, fresh, key, validity};
 use crate::print::{found, kmac};
+use crate::wire::Key;
 
 // Adds a key with this period and this word of its KMAC for one peer.
 fn hold(name: &[u8], s: &mut [u8], serial: u32, kmac: u32, peer: u32, start: u32, end: u32) {
-    let mut held = key(serial, 1);
-    held.kmac = kmac;
-    held.peer = peer;
-    held.start = start;
-    held.end = end;
+    let held = Key {
+        kmac,
+        peer,
+        start,
+        end,
+        ..key(serial, 1)
+    };
     add_keys(name, s, held, 1, 0);
 }
 

@@ -71,10 +71,11 @@ fn all_peers(s: &mut [u8]) {
 
 // The key of serial 1 with KMAC bytes 00.
 fn bad_key(recipient: u32) -> Key {
-    let mut bad = key(1, 1);
-    bad.recipient = recipient;
-    bad.kmac = 0;
-    bad
+    Key {
+        recipient,
+        kmac: 0,
+        ..key(1, 1)
+    }
 }
 
 fn bad_keys(s: &mut [u8]) {
@@ -128,13 +129,6 @@ fn other_periods(s: &mut [u8]) {
     reversed(s);
 }
 
-fn key_for_other() -> Key {
-    let mut third = key(3, 1);
-    third.kmac = OTHER_KMAC;
-    third.peer = OTHER;
-    third
-}
-
 fn both_peers(s: &[u8]) {
     found(b"the peer:", s, PEER, 5);
     found(b"the other:", s, OTHER, 5);
@@ -143,7 +137,12 @@ fn both_peers(s: &[u8]) {
 
 fn three_keys(s: &mut [u8]) {
     add(b"a second for the peer:", s, 2, 3);
-    add_keys(b"a third for another:", s, key_for_other(), 1, 0);
+    let third = Key {
+        kmac: OTHER_KMAC,
+        peer: OTHER,
+        ..key(3, 1)
+    };
+    add_keys(b"a third for another:", s, third, 1, 0);
     both_peers(s);
 }
 

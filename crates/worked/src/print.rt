@@ -1,5 +1,4 @@
 // What the cases print: a line each.
-use crate::wire::front;
 use message::written::HEAD;
 use octets::{get16_at, get32_at};
 use refusal::Refusal;
@@ -26,80 +25,65 @@ fn number(x: u64) {
     io::print_decimal(STANDARD_OUTPUT, x);
 }
 
-fn byte(x: u8) {
-    number(x as u64);
+fn bytes(s: &[u8]) {
+    for b in s {
+        number(u64::from(*b));
+    }
 }
 
-// The bytes from index i on.
-fn bytes(s: &[u8], i: usize) {
-    let mut k = i;
-    while k < s.len() {
-        byte(s[k]);
-        k += 1;
-    }
+// The first n bytes of s, or all where there are fewer.
+// As in the console: programs share no crate of their own, and the module has no use for it.
+pub fn front(s: &[u8], n: usize) -> &[u8] {
+    s.get(..n).unwrap_or(s)
 }
 
 // ---- replies
 
-fn response(reply: &[u8]) {
+// The RESULTs; where there is none, or RESPONSE is not 0, RESPONSE and REQ-NUM.
+fn replied(reply: &[u8]) {
     if reply.len() < HEAD {
         return;
     }
-    text(b" RESPONSE");
-    byte(reply[RESPONSE_AT]);
-    text(b", REQ-NUM");
-    number(get16_at(reply, REQ_NUM_AT) as u64);
-}
-
-// The RESULTs; where there is none, or RESPONSE is not 0, RESPONSE and REQ-NUM.
-fn replied(reply: &[u8]) {
-    if reply.len() <= HEAD {
-        response(reply);
-        return;
+    if reply.len() > HEAD && reply[RESPONSE_AT] == DONE {
+        bytes(&reply[HEAD..]);
+    } else {
+        text(b" RESPONSE");
+        number(u64::from(reply[RESPONSE_AT]));
+        text(b", REQ-NUM");
+        number(u64::from(get16_at(reply, REQ_NUM_AT)));
     }
-    if reply[RESPONSE_AT] != DONE {
-        response(reply);
-        return;
-    }
-    bytes(reply, HEAD);
 }
 
 fn refused(h: Refusal) {
     text(b" H");
-    io::print_decimal(STANDARD_OUTPUT, refusal::house_number(h) as u64);
+    io::print_decimal(STANDARD_OUTPUT, u64::from(u8::from(h)));
 }
 
 // The name, and what is answered.
-pub fn answered(name: &[u8], answer: Received, out: &[u8]) {
+pub fn answered(name: &[u8], answer: Result<Received, Refusal>, out: &[u8]) {
     text(name);
     match answer {
-        Received::Reply(n) => replied(front(out, n)),
-        Received::Opened => text(b" opened"),
-        Received::Ended => text(b" ended"),
-        Received::Refused(h) => refused(h),
+        Ok(Received::Reply(n)) => replied(front(out, n)),
+        Ok(Received::Opened) => text(b" opened"),
+        Ok(Received::Ended) => text(b" ended"),
+        Err(h) => refused(h),
     }
     text(b"\n");
 }
 
 // ---- sessions
 
-fn state(code: u8) {
-    if code == Session::WAITING {
-        text(b" waiting");
-    } else if code == Session::OPEN {
-        text(b" open");
-    } else {
-        text(b" closed");
-    }
-}
-
 // The state, and what is remembered.
 pub fn session(e: Session) {
     text(b"session:");
-    state(e.state);
+    match e.state {
+        Session::WAITING => text(b" waiting"),
+        Session::OPEN => text(b" open"),
+        _ => text(b" closed"),
+    }
     text(b", last transaction");
     if e.remembered {
-        number(e.transaction as u64);
+        number(u64::from(e.transaction));
     } else {
         text(b" none");
     }
@@ -112,12 +96,12 @@ pub fn session(e: Session) {
 pub fn found(name: &[u8], s: &[u8], peer: u32, t: u32) {
     text(name);
     match store::find(s, peer, t) {
-        Found::At(place, until) => {
+        Ok(Found { place, end }) => {
             number(place as u64);
             text(b" until");
-            number(until as u64);
+            number(u64::from(end));
         }
-        Found::Refused(h) => refused(h),
+        Err(h) => refused(h),
     }
     text(b"\n");
 }
@@ -125,7 +109,7 @@ pub fn found(name: &[u8], s: &[u8], peer: u32, t: u32) {
 // The name, and the KMAC that a search hands back.
 pub fn kmac(name: &[u8], s: &[u8], peer: u32, t: u32) {
     text(name);
-    bytes(store::key(s, peer, t), 0);
+    bytes(store::key(s, peer, t));
     text(b"\n");
 }
 
@@ -140,57 +124,28 @@ pub fn counts(s: &[u8]) {
     text(b"\n");
 }
 
-// The serial of record i.
-fn serial(s: &[u8], i: usize) {
-    if i < 65536 {
-        let at = KEYS_AT + RECORD * i;
-        if at + 8 <= s.len() {
-            number(get32_at(s, at + 4) as u64);
-        }
-    }
-}
-
-// The serials of the n records.
-fn serials(s: &[u8], n: usize) {
-    let mut i = 0;
-    while i < n {
-        serial(s, i);
-        i += 1;
-    }
-}
-
 // The serials in store order.
 pub fn records(s: &[u8]) {
     if s.len() < KEYS_AT {
         return;
     }
     text(b"records:");
-    serials(s, number_at(s, 2));
+    for record in s[KEYS_AT..].chunks_exact(RECORD).take(number_at(s, 2)) {
+        number(u64::from(get32_at(record, 4)));
+    }
     text(b"\n");
 }
 
 // How many bytes are not zero.
-fn count(s: &[u8]) -> usize {
-    let mut n: usize = 0;
-    let mut i = 0;
-    while i < s.len() {
-        if s[i] != 0 {
-            n += 1;
-        }
-        i += 1;
-    }
-    n
-}
-
 pub fn nonzero(s: &[u8]) {
     text(b"bytes not zero:");
-    number(count(s) as u64);
+    number(s.iter().filter(|b| **b != 0).count() as u64);
     text(b"\n");
 }
 
 // The bytes of the header.
 pub fn header(s: &[u8]) {
     text(b"header:");
-    bytes(front(s, KEYS_AT), 0);
+    bytes(front(s, KEYS_AT));
     text(b"\n");
 }

@@ -1,12 +1,7 @@
 // The cases of repeated transaction numbers (document 02, change request 3).
-use crate::centre::{
-    ADD_KEYS, CENTRE_START, DELETE_ALL_KEYS, DELETE_KEYS, END_OF_UPDATE, FIRST, ISSUER, LENGTH,
-    RESERVED, add_keys, deliver, fresh, key, opened,
-};
+use crate::centre::{CENTRE_START, FIRST, ISSUER, add_keys, deliver, fresh, key, opened};
 use crate::print::{header as store_header, records, session};
-use crate::wire::{CENTRE, OWN, command, header, identifier, k_struct, word};
-use message::written::{HEAD, put_init};
-use message::{HEADER, MESSAGE_MOST, TRANSACTION_AT};
+use crate::wire::{CENTRE, DELETE_ALL_KEYS, END_OF_UPDATE, Message, OWN, RESERVED};
 use session::Session;
 
 // The number of the message after the first, and of that after it.
@@ -21,21 +16,11 @@ const OWN_NEXT: u16 = 10;
 
 // ---- messages
 
-// Sends the first n bytes with this transaction number, and prints the answer.
-fn send(
-    name: &[u8],
-    e: Session,
-    transaction: u32,
-    m: &mut [u8; MESSAGE_MOST],
-    n: usize,
-    s: &mut [u8],
-) -> Session {
-    if MESSAGE_MOST < n {
-        return e;
-    }
-    word(m, 0, n as u32);
-    word(m, TRANSACTION_AT, transaction);
-    deliver(name, e, m, n, s)
+// Sends a message with this transaction number, and prints the answer.
+fn send(name: &[u8], e: Session, transaction: u32, m: &Message, s: &mut [u8]) -> Session {
+    let mut sent = m.whole();
+    sent.set_transaction(transaction);
+    deliver(name, e, &sent, s)
 }
 
 // Deletes one key.
@@ -47,46 +32,50 @@ fn delete(
     serial: u32,
     s: &mut [u8],
 ) -> Session {
-    let mut m = [0u8; MESSAGE_MOST];
-    let i = command(&mut m, sequence, DELETE_KEYS, 1);
-    let n = identifier(&mut m, i, ISSUER, serial);
-    send(name, e, transaction, &mut m, n, s)
+    send(
+        name,
+        e,
+        transaction,
+        &Message::delete(sequence, ISSUER, serial),
+        s,
+    )
 }
 
 // Adds the first key.
 fn add(name: &[u8], e: Session, sequence: u16, transaction: u32, s: &mut [u8]) -> Session {
-    let mut m = [0u8; MESSAGE_MOST];
-    let i = command(&mut m, sequence, ADD_KEYS, 1);
-    let n = k_struct(&mut m, i, key(1, 1));
-    send(name, e, transaction, &mut m, n, s)
+    send(
+        name,
+        e,
+        transaction,
+        &Message::add(sequence, key(1, 1), 1, 0),
+        s,
+    )
 }
 
-// A message of a type, with so many bytes 00 for a body.
+// A message of a type with no body.
 fn plain(
     name: &[u8],
     e: Session,
     sequence: u16,
     transaction: u32,
     kind: u8,
-    body: usize,
     s: &mut [u8],
 ) -> Session {
-    let mut m = [0u8; MESSAGE_MOST];
-    header(&mut m, LENGTH, OWN, sequence, kind);
-    if MESSAGE_MOST - HEADER < body {
-        return e;
-    }
-    send(name, e, transaction, &mut m, HEADER + body, s)
+    send(
+        name,
+        e,
+        transaction,
+        &Message::header(OWN, sequence, kind),
+        s,
+    )
 }
 
 fn delete_all(name: &[u8], e: Session, sequence: u16, transaction: u32, s: &mut [u8]) -> Session {
-    plain(name, e, sequence, transaction, DELETE_ALL_KEYS, 0, s)
+    plain(name, e, sequence, transaction, DELETE_ALL_KEYS, s)
 }
 
 fn init(name: &[u8], e: Session, transaction: u32, s: &mut [u8]) -> Session {
-    let mut m = [0u8; MESSAGE_MOST];
-    put_init(&mut m, CENTRE, OWN, FIRST);
-    send(name, e, transaction, &mut m, HEAD, s)
+    send(name, e, transaction, &Message::init(FIRST), s)
 }
 
 // ---- sessions
@@ -196,7 +185,6 @@ fn order_of_tests(s: &mut [u8]) {
         FIRST,
         REMEMBERED,
         RESERVED,
-        0,
         s,
     ));
 }
@@ -214,7 +202,7 @@ fn waiting(s: &mut [u8]) {
 
 fn ends(name: &[u8], transaction: u32, s: &mut [u8]) {
     let e = delete_all(b"delete all:", first(s), FIRST, 7, s);
-    session(plain(name, e, SECOND, transaction, END_OF_UPDATE, 0, s));
+    session(plain(name, e, SECOND, transaction, END_OF_UPDATE, s));
 }
 
 fn ends_at_once(s: &mut [u8]) {
@@ -224,19 +212,20 @@ fn ends_at_once(s: &mut [u8]) {
         FIRST,
         0,
         END_OF_UPDATE,
-        0,
         s,
     ));
 }
 
 fn after_type(name: &[u8], transaction: u32, s: &mut [u8]) {
-    let e = plain(b"type 200:", first(s), FIRST, 7, RESERVED, 0, s);
+    let e = plain(b"type 200:", first(s), FIRST, 7, RESERVED, s);
     session(e);
     session(delete_all(name, e, SECOND, transaction, s));
 }
 
 fn after_format(s: &mut [u8]) {
-    session(plain(b"format error:", first(s), FIRST, 7, DELETE_ALL_KEYS, 1, s));
+    let mut m = Message::header(OWN, FIRST, DELETE_ALL_KEYS);
+    m.byte(0);
+    session(send(b"format error:", first(s), 7, &m, s));
 }
 
 fn after_unsound(name: &[u8], transaction: u32, s: &mut [u8]) {

@@ -1,11 +1,28 @@
-// A message's fields (000, 5.3). Each function writes from index i and gives the index behind; where there is no room it writes nothing and gives i.
-use message::{MESSAGE_MOST, VERSION};
-use octets::{put16, put32};
+// The messages of the key centre (000, 5.3).
+ghost use Rattle.std.specs.Prelude.{◌≤◌};
+
+use message::written::{HEAD, put_init};
+use message::{MESSAGE_MOST, TRANSACTION_AT, VERSION};
 
 // The module and its key centre.
 pub const OWN: u32 = 7;
 
 pub const CENTRE: u32 = 6;
+
+// Message types (000, 5.3.3).
+const ADD_KEYS: u8 = 0;
+
+const DELETE_KEYS: u8 = 1;
+
+pub const DELETE_ALL_KEYS: u8 = 2;
+
+const UPDATE_KEY_VALIDITIES: u8 = 3;
+
+const UPDATE_KEY_ENTITIES: u8 = 4;
+
+pub const END_OF_UPDATE: u8 = 10;
+
+pub const RESERVED: u8 = 200;
 
 // K-LENGTH, and a KMAC's words.
 const KEY_LENGTH: u8 = 24;
@@ -25,95 +42,152 @@ pub struct Key {
     pub end: u32,
 }
 
-// The first n bytes of s, or all where there are fewer.
-pub fn front(s: &[u8], n: usize) -> &[u8] {
-    if n <= s.len() {
-        return &s[..n];
+// A message as far as it is written. Where there is no room for a field it is not written.
+#[derive(Clone, Copy)]
+pub struct Message {
+    bytes: [u8; MESSAGE_MOST],
+    len: usize,
+    ghost fits: { len ≤ 5000 },
+}
+
+impl Message {
+    // ---- fields
+
+    fn field(&mut self, bytes: &[u8]) {
+        if bytes.len() <= MESSAGE_MOST - self.len {
+            let end = self.len + bytes.len();
+            self.bytes[self.len..end].copy_from_slice(bytes);
+            self.len = end;
+        }
     }
-    s
-}
 
-fn byte(m: &mut [u8; MESSAGE_MOST], i: usize, v: u8) -> usize {
-    if MESSAGE_MOST <= i {
-        return i;
+    pub fn byte(&mut self, v: u8) {
+        self.field(&[v]);
     }
-    m[i] = v;
-    i + 1
-}
 
-fn half(m: &mut [u8; MESSAGE_MOST], i: usize, v: u16) -> usize {
-    if MESSAGE_MOST - 2 < i {
-        return i;
+    fn half(&mut self, v: u16) {
+        self.field(&v.to_be_bytes());
     }
-    put16(m, i, v);
-    i + 2
-}
 
-pub fn word(m: &mut [u8; MESSAGE_MOST], i: usize, v: u32) -> usize {
-    if MESSAGE_MOST - 4 < i {
-        return i;
+    fn word(&mut self, v: u32) {
+        self.field(&v.to_be_bytes());
     }
-    put32(m, i, v);
-    i + 4
-}
 
-// The word v, n times.
-fn words(m: &mut [u8; MESSAGE_MOST], i: usize, v: u32, n: u16) -> usize {
-    let mut at = i;
-    let mut k: u16 = 0;
-    while k < n {
-        at = word(m, at, v);
-        k += 1;
+    // The word v, n times.
+    fn words(&mut self, v: u32, n: u16) {
+        for _ in 0..n {
+            self.word(v);
+        }
     }
-    at
-}
 
-// The transaction number is the sequence number.
-pub fn header(
-    m: &mut [u8; MESSAGE_MOST],
-    length: u32,
-    receiver: u32,
-    number: u16,
-    kind: u8,
-) -> usize {
-    let version_at = word(m, 0, length);
-    let receiver_at = byte(m, version_at, VERSION);
-    let sender_at = word(m, receiver_at, receiver);
-    let transaction_at = word(m, sender_at, CENTRE);
-    let number_at = word(m, transaction_at, number as u32);
-    let kind_at = half(m, number_at, number);
-    byte(m, kind_at, kind)
-}
+    // K-IDENTIFIER.
+    fn identifier(&mut self, issuer: u32, serial: u32) {
+        self.word(issuer);
+        self.word(serial);
+    }
 
-// A header whose length is still to be written, and REQ-NUM.
-pub fn command(m: &mut [u8; MESSAGE_MOST], number: u16, kind: u8, requests: u16) -> usize {
-    let i = header(m, 0, OWN, number, kind);
-    half(m, i, requests)
-}
+    fn period(&mut self, start: u32, end: u32) {
+        self.word(start);
+        self.word(end);
+    }
 
-// K-IDENTIFIER.
-pub fn identifier(m: &mut [u8; MESSAGE_MOST], i: usize, issuer: u32, serial: u32) -> usize {
-    let serial_at = word(m, i, issuer);
-    word(m, serial_at, serial)
-}
+    // PEER-NUM, and that many times the peer.
+    fn peers(&mut self, peer: u32, count: u16) {
+        self.half(count);
+        self.words(peer, count);
+    }
 
-pub fn period(m: &mut [u8; MESSAGE_MOST], i: usize, start: u32, end: u32) -> usize {
-    let end_at = word(m, i, start);
-    word(m, end_at, end)
-}
+    // K-STRUCT.
+    fn k_struct(&mut self, key: Key) {
+        self.byte(KEY_LENGTH);
+        self.identifier(key.issuer, key.serial);
+        self.word(key.recipient);
+        self.words(key.kmac, KMAC_WORDS);
+        self.peers(key.peer, key.count);
+        self.period(key.start, key.end);
+    }
 
-// PEER-NUM, and that many times the peer.
-pub fn peers(m: &mut [u8; MESSAGE_MOST], i: usize, peer: u32, count: u16) -> usize {
-    let first = half(m, i, count);
-    words(m, first, peer, count)
-}
+    // ---- messages; their length is still to be written, and the transaction number is the sequence number
 
-// K-STRUCT.
-pub fn k_struct(m: &mut [u8; MESSAGE_MOST], i: usize, key: Key) -> usize {
-    let key_at = byte(m, i, KEY_LENGTH);
-    let recipient_at = identifier(m, key_at, key.issuer, key.serial);
-    let kmac_at = word(m, recipient_at, key.recipient);
-    let peers_at = words(m, kmac_at, key.kmac, KMAC_WORDS);
-    let period_at = peers(m, peers_at, key.peer, key.count);
-    period(m, period_at, key.start, key.end)
+    pub fn header(receiver: u32, number: u16, kind: u8) -> Message {
+        let mut m = Message {
+            bytes: [0; MESSAGE_MOST],
+            len: 0,
+        };
+        m.word(0);
+        m.byte(VERSION);
+        m.word(receiver);
+        m.word(CENTRE);
+        m.word(u32::from(number));
+        m.half(number);
+        m.byte(kind);
+        m
+    }
+
+    // A header and REQ-NUM.
+    fn command(number: u16, kind: u8, requests: u16) -> Message {
+        let mut m = Message::header(OWN, number, kind);
+        m.half(requests);
+        m
+    }
+
+    // Adds n keys: the first, and each next with a serial higher by step.
+    pub fn add(number: u16, first: Key, n: u16, step: u32) -> Message {
+        let mut m = Message::command(number, ADD_KEYS, n);
+        let mut key = first;
+        for _ in 0..n {
+            m.k_struct(key);
+            key.serial = key.serial.wrapping_add(step);
+        }
+        m
+    }
+
+    pub fn delete(number: u16, issuer: u32, serial: u32) -> Message {
+        let mut m = Message::command(number, DELETE_KEYS, 1);
+        m.identifier(issuer, serial);
+        m
+    }
+
+    pub fn validity(number: u16, issuer: u32, serial: u32, start: u32, end: u32) -> Message {
+        let mut m = Message::command(number, UPDATE_KEY_VALIDITIES, 1);
+        m.identifier(issuer, serial);
+        m.period(start, end);
+        m
+    }
+
+    // Replaces the peers by so many of this one.
+    pub fn entities(number: u16, issuer: u32, serial: u32, peer: u32, count: u16) -> Message {
+        let mut m = Message::command(number, UPDATE_KEY_ENTITIES, 1);
+        m.identifier(issuer, serial);
+        m.peers(peer, count);
+        m
+    }
+
+    // A session init, whole.
+    pub fn init(number: u16) -> Message {
+        let mut bytes = [0; MESSAGE_MOST];
+        put_init(&mut bytes, CENTRE, OWN, number);
+        Message { bytes, len: HEAD }
+    }
+
+    // ---- a message that is written
+
+    pub fn set_length(&mut self, length: u32) {
+        octets::put32(&mut self.bytes, 0, length);
+    }
+
+    pub fn set_transaction(&mut self, number: u32) {
+        octets::put32(&mut self.bytes, TRANSACTION_AT, number);
+    }
+
+    // With its length written.
+    pub fn whole(self) -> Message {
+        let mut m = self;
+        m.set_length(self.len as u32);
+        m
+    }
+
+    pub fn as_slice(&self) -> &[u8] {
+        &self.bytes[..self.len]
+    }
 }

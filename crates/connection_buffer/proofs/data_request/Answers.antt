@@ -7,10 +7,10 @@ use Rattle.connection_buffer.proofs.data_request.Goals as goal
 pub tell-requires : goal.tell-requires
 tell-requires c =
     let a = c.args in
-    told-short (data_request a.user.now) a.connection.now a.out.now c.load-before.result c.load-before.ensures c.send-taken.ensures (lit≤ tt)
+    told-short (data_request a.user.now) a.connection.now a.out.now c.load.result c.load.ensures c.send-taken.ensures (lit≤ tt)
 
 pub returns : goal.returns
 returns c =
     let a = c.args in
-    tells (data_request a.user.now) a.connection.now a.out.now c.load-before.result c.load-before.ensures c.send-taken.ensures
+    tells (data_request a.user.now) a.connection.now a.out.now c.load.result c.load.ensures c.send-taken.ensures
     c.tell.result c.tell.new.connection a.events.now c.tell.new.events (record { sfits = c.tell.type_inv }) c.tell.ensures.value c.tell.ensures.connection_after c.tell.ensures.events_after

@@ -7,10 +7,10 @@ use Rattle.connection_buffer.proofs.time_out.Goals as goal
 pub tell-requires : goal.tell-requires
 tell-requires c =
     let a = c.args in
-    told-short time_out a.connection.now a.out.now c.load-before.result c.load-before.ensures c.time_out-taken.ensures (lit≤ tt)
+    told-short time_out a.connection.now a.out.now c.load.result c.load.ensures c.time_out-taken.ensures (lit≤ tt)
 
 pub returns : goal.returns
 returns c =
     let a = c.args in
-    tells time_out a.connection.now a.out.now c.load-before.result c.load-before.ensures c.time_out-taken.ensures
+    tells time_out a.connection.now a.out.now c.load.result c.load.ensures c.time_out-taken.ensures
     c.tell.result c.tell.new.connection a.events.now c.tell.new.events (record { sfits = c.tell.type_inv }) c.tell.ensures.value c.tell.ensures.connection_after c.tell.ensures.events_after

@@ -8,10 +8,10 @@ use Rattle.connection_buffer.proofs.unit_indication.Goals as goal
 pub tell-requires : goal.tell-requires
 tell-requires c =
     let a = c.args in
-    told-short (unit_indication (kind_numbered a.kind) a.unit.now) a.connection.now a.out.now c.load-before.result c.load-before.ensures (named a.kind a.unit.now a.out.now c.load-before.result c.kind_numbered.ensures c.unit-taken.ensures) (lit≤ tt)
+    told-short (unit_indication (kind_numbered a.kind) a.unit.now) a.connection.now a.out.now c.load.result c.load.ensures (named a.kind a.unit.now a.out.now c.load.result c.kind_numbered.ensures c.unit-taken.ensures) (lit≤ tt)
 
 pub returns : goal.returns
 returns c =
     let a = c.args in
-    tells (unit_indication (kind_numbered a.kind) a.unit.now) a.connection.now a.out.now c.load-before.result c.load-before.ensures (named a.kind a.unit.now a.out.now c.load-before.result c.kind_numbered.ensures c.unit-taken.ensures)
+    tells (unit_indication (kind_numbered a.kind) a.unit.now) a.connection.now a.out.now c.load.result c.load.ensures (named a.kind a.unit.now a.out.now c.load.result c.kind_numbered.ensures c.unit-taken.ensures)
     c.tell.result c.tell.new.connection a.events.now c.tell.new.events (record { sfits = c.tell.type_inv }) c.tell.ensures.value c.tell.ensures.connection_after c.tell.ensures.events_after

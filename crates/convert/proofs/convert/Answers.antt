@@ -4,7 +4,7 @@ use native.Mathlib.Omega.{arith}
 use lib.ListN.{length}
 use borrow.Author.Tests.{eqb-true}
 use Rattle.store.specs.Layout.{total}
-use Rattle.store.proofs.SoundLaws.{sound-says}
+use Rattle.store.proofs.SoundLaws.{sound_says}
 use Rattle.convert.proofs.ConvertLaws.{counts_decide, wrong_source, wrong_target, unsound, no_room, done}
 use Rattle.convert.proofs.convert.Goals as goal
 
@@ -27,7 +27,7 @@ returns-then-not-is_sound c =
 pub counts_ok-requires : goal.counts_ok-requires
 counts_ok-requires c =
     let a = c.args in
-    let w = sound-says a.source a.from.now (sym c.is_sound.ensures ∙ c.if-not-is_sound.false) in
+    let w = sound_says a.source a.from.now (sym c.is_sound.ensures ∙ c.if-not-is_sound.false) in
     omega (arith, w.size)
 
 pub returns-then-not-counts_ok : goal.returns-then-not-counts_ok

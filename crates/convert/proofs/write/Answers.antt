@@ -2,18 +2,18 @@
 use mathlib.Core.Path.{◌∙◌}
 use native.Mathlib.Omega.{arith}
 use Rattle.store.specs.Store.{entries}
-use Rattle.store.proofs.SoundLaws.{sound-says}
+use Rattle.store.proofs.SoundLaws.{sound_says}
 use Rattle.convert.proofs.ConvertLaws.{room_says, records_lie, peers_lie, copied}
 use Rattle.convert.proofs.write.Goals as goal
 
 pub number_at-n-requires : goal.number_at-n-requires
 number_at-n-requires c =
-    let w = sound-says c.args.source c.args.from.now c.requires.from_value in
+    let w = sound_says c.args.source c.args.from.now c.requires.from_value in
     omega (arith, w.size)
 
 pub number_at-m-requires : goal.number_at-m-requires
 number_at-m-requires c =
-    let w = sound-says c.args.source c.args.from.now c.requires.from_value in
+    let w = sound_says c.args.source c.args.from.now c.requires.from_value in
     omega (arith, w.size)
 
 -- the header once written, the target is as long as it was

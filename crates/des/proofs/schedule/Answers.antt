@@ -12,15 +12,11 @@ use Rattle.des.proofs.schedule.Goals as goal
 
 pub loop-n-init : goal.loop-n-init
 unfolding shifted
-loop-n-init c = record { most = omega arith; sixteen = refl; halves = c.choice1-cd.ensures.same; made = below_none _ }
+loop-n-init c = record { sixteen = refl; halves = c.choice1-cd.ensures.same; made = below_none _ }
 
 pub shift_both-cd-requires : goal.shift_both-cd-requires
 unfolding shifts
 shift_both-cd-requires c = omega (arith, shifts_fit c.loop-n.n c.loop-n-test.true)
-
-pub choice2-requires : goal.choice2-requires
-choice2-requires c =
-    c.pc2_table-table.ensures
 
 pub loop-n-preserved : goal.loop-n-preserved
 unfolding shifts subkey
@@ -29,9 +25,8 @@ loop-n-preserved c =
     let key = c.args.key in
     let l : n < length c.loop-n.keys = omega arith in
     let next : bits 56 c.shift_both-cd.result ≡ shifted (bits 64 key) (suc n) =
-    shifted_step (bits 64 key) n c.loop-n.cd c.shift_both-cd.result c.wide64.ensures.0 c.loop-n.invariant.halves c.shift_both-cd.ensures.same in
+    shifted_step (bits 64 key) n c.loop-n.cd c.shift_both-cd.result c.from.ensures c.loop-n.invariant.halves c.shift_both-cd.ensures.same in
     record {
-      most = omega arith;
       sixteen = simp length-set c.loop-n.invariant.sixteen;
       halves = next ∙ ap (shifted (bits 64 key)) (sym (add-one n));
       made = keys_step (bits 64 key) c.loop-n.keys n c.choice2.result l c.loop-n.invariant.made (c.choice2.ensures.same ∙ ap (permute pc2) next);

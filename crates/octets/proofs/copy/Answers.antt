@@ -1,24 +1,11 @@
-use mathlib.Core.Path.{◌≡◌, refl, sym, ap, ◌∙◌}
-use Prim.Native.Nat.{ℕ}
-use lib.ListN.{length-set}
-use Rattle.octets.specs.Bytes.{part, splice}
-use Rattle.octets.proofs.SpliceLaws.{splice-none, copy_turn}
-use native.Mathlib.Omega.{arith}
+-- `octets::copy` meets its contract.
+use Rattle.std.proofs.Common.{arith, ◌≡◌, ◌+◌, ◌-◌}
+use Rattle.std.proofs.lemmas.Grind.{common_steps}
+use Rattle.octets.specs.Bytes.{part}
+use Rattle.octets.proofs.SpliceLaws.{part_written}
 use Rattle.octets.proofs.copy.Goals as goal
 
-pub loop-k-init : goal.loop-k-init
-unfolding part
-loop-k-init c = (omega arith, (refl, sym (splice-none c.args.s.now c.args.i)))
-
-pub loop-k-preserved : goal.loop-k-preserved
-loop-k-preserved c =
-    let a = c.args in (
-      omega arith,
-      (simp length-set c.loop-k.invariant.1.0, copy_turn a.s.now a.i a.src.now a.at c.loop-k.k c.loop-k.s (omega arith) (omega arith) c.loop-k.invariant.1.1),
-    )
-
 pub returns : goal.returns
+unfolding part
 returns c =
-    let a = c.args in
-    let e : c.loop-k.k ≡ a.n = omega arith in
-    c.loop-k.invariant.1.1 ∙ ap (λ (x : ℕ). splice a.s.now a.i (part a.src.now a.at x)) e
+    let n : c.args.at + c.args.n - c.args.at ≡ c.args.n = omega arith in grind (arith, common_steps, part_written)

@@ -1,31 +1,18 @@
-use lib.ListN.{length}
+-- `periods::lines` is safe and ends.
+use Rattle.std.proofs.Common.{length, arith}
 use Rattle.store.specs.Layout.{edition_of}
+use Rattle.store.proofs.SoundLaws.{sound_says}
 use Rattle.records.proofs.Theorems.{held_in_lem}
-use Rattle.store.proofs.SoundLaws.{sound-says}
-use native.Mathlib.Omega.{arith}
 use Rattle.periods.proofs.lines.Goals as goal
 
-pub number_at-n-requires : goal.number_at-n-requires
-number_at-n-requires c =
+pub number_at-i-end-requires : goal.number_at-i-end-requires
+number_at-i-end-requires g c =
     let p = held_in_lem (edition_of (length c.args.s.now)) c.args.s.now c.requires in
-    let w = sound-says p.0 c.args.s.now p.1 in
-    omega arith
+    let w = sound_says p.0 c.args.s.now p.1 in
+    omega (arith, w.size)
 
-pub loop-i-init : goal.loop-i-init
-loop-i-init c = (omega arith, c.number_at-n.ensures.0, c.requires)
-
-pub record_at-requires : goal.record_at-requires
-record_at-requires c =
+pub record_at-r-requires : goal.record_at-r-requires
+record_at-r-requires g c =
     let p = held_in_lem (edition_of (length c.args.s.now)) c.args.s.now c.requires in
-    let w = sound-says p.0 c.args.s.now p.1 in
-    (omega arith, omega (arith, w.size, w.keys_fit, c.loop-i.invariant.1))
-
-pub line-requires : goal.line-requires
-line-requires c = tt
-
-pub loop-i-preserved : goal.loop-i-preserved
-loop-i-preserved c =
-    (omega arith, c.loop-i.invariant.1, c.loop-i.invariant.2)
-
-pub returns : goal.returns
-returns c = tt
+    let w = sound_says p.0 c.args.s.now p.1 in
+    (omega (arith, c.number_at-i-end.ensures), omega (arith, w.size, w.keys_fit, c.number_at-i-end.ensures))

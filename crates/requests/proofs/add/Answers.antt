@@ -1,23 +1,25 @@
 -- `requests::add` meets its contract.
-use mathlib.Core.Path.{sym, ◌∙◌}
+use Rattle.std.proofs.Common.{sym, ◌/◌, length, rules}
+use Rattle.std.proofs.lemmas.Result.{err_from_is_err_and}
 use Rattle.octets.proofs.WordLaws.{length-numbers}
 use Rattle.requests.specs.Worked.{new_entry, addition}
-use Rattle.requests.proofs.ResultLaws.{refused, add-room, add-worked}
+use Rattle.requests.proofs.ResultLaws.{refused, is-failure, add-room, add-worked}
 use Rattle.requests.proofs.add.Goals as goal
 
-pub returns-then-result-ne-DONE : goal.returns-then-result-ne-DONE
-returns-then-result-ne-DONE c =
+pub returns-in_err-add_result : goal.returns-in_err-add_result
+returns-in_err-add_result c =
     let a = c.args in
-    refused a.lim a.own (addition a.new a.m.now) a.s.now c.add_result-result.result
-    (λ j. (c.slice_known-1.given j).fits) c.requires.s_value c.add_result-result.ensures c.if-result-ne-DONE.true
+    let f = c.in_err-add_result.field-0.0 in
+    let p = err_from_is_err_and c.from_residual.result c.from_residual.ensures.1 in
+    rw (p.1, p.2) (refused a.lim a.own (addition a.new) a.s.now _ (search rules) c.requires c.in_err-add_result.ensures (is-failure f))
 
-pub append-requires : goal.append-requires
-append-requires c =
+pub append-requires-clause-s_bound : goal.append-requires-clause-s_bound
+append-requires-clause-s_bound c =
     let a = c.args in
-    record { s_value = c.requires.s_value; s_bound = add-room a.lim a.own a.s.now a.new.recipient (new_entry a.new a.m.now) a.new.count c.requires.s_value (sym (length-numbers a.m.now a.new.peers a.new.count)) (sym c.add_result-result.ensures ∙ c.if-result-ne-DONE.false); kmac_in_bounds = c.requires.kmac_in_bounds }
+    let b = a.new.peers.bytes.now in
+    add-room a.lim a.own a.s.now a.new.recipient (new_entry a.new) (length b / 4) c.requires (sym (length-numbers b 0 (length b / 4))) (sym c.in_ok-add_result.ensures)
 
 pub returns : goal.returns
 returns c =
     let a = c.args in
-    add-worked a.lim a.own a.s.now a.new.recipient (new_entry a.new a.m.now) c.append.new.s
-    (sym c.add_result-result.ensures ∙ c.if-result-ne-DONE.false) c.append.ensures
+    add-worked a.lim a.own a.s.now a.new.recipient (new_entry a.new) c.append.new.s (sym c.in_ok-add_result.ensures) c.append.ensures

@@ -1,27 +1,18 @@
 -- `requests::delete` meets its contract.
-use native.Mathlib.Omega.{arith}
-use Rattle.store.proofs.SearchLaws.{frame}
-use Rattle.requests.proofs.ResultLaws.{delete-worked, delete-refused}
+use Rattle.std.proofs.Common.{rules}
+use Rattle.requests.proofs.ResultLaws.{delete-worked, delete-refused, not-held-number}
 use Rattle.requests.proofs.delete.Goals as goal
 
-pub number_at-n-requires : goal.number_at-n-requires
-number_at-n-requires c = let r = frame c.args.lim c.args.s.now (λ j. (c.slice_known-1.given j).fits) c.requires in omega arith
-
-pub key_place-i-requires : goal.key_place-i-requires
-key_place-i-requires c =
-    let r = frame c.args.lim c.args.s.now (λ j. (c.slice_known-1.given j).fits) c.requires in
-    let number-at-says = c.number_at-n.ensures in
-    omega arith
-
-pub returns-then-i-n : goal.returns-then-i-n
-returns-then-i-n c =
+pub returns-in_err-i : goal.returns-in_err-i
+returns-in_err-i c =
     let a = c.args in
-    λ own. delete-worked a.lim a.s.now a.issuer a.serial c.number_at-n.result c.key_place-i.result
-    c.number_at-n.ensures.0 c.key_place-i.ensures own c.remove_at.new.s c.if-i-n.true
-    c.remove_at.ensures
+    let e = c.in_err-i.ensures in
+    rw (not-held-number c.key_place.result c.in_err-i.field-0.0 c.from_residual.result e.ok_part e.value c.from_residual.ensures.1)
+    (λ own. delete-refused a.lim a.s.now a.id.issuer a.id.serial own (search rules) c.requires (rw e.ok_part at (c.key_place.ensures.found a.lim)))
 
 pub returns : goal.returns
 returns c =
     let a = c.args in
-    λ own. delete-refused a.lim a.s.now a.issuer a.serial c.number_at-n.result c.key_place-i.result
-    c.number_at-n.ensures.0 c.key_place-i.ensures own (λ j. (c.slice_known-1.given j).fits) c.requires c.if-i-n.false
+    let place = rw c.in_ok-i.ensures.ok_part at (c.key_place.ensures.found a.lim) in
+    let counted = rw c.in_ok-i.ensures.ok_part at c.key_place.ensures.counted in
+    λ own. delete-worked a.lim a.s.now a.id.issuer a.id.serial own c.in_ok-i.i place counted c.remove_at.new.s c.remove_at.ensures

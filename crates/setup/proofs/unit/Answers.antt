@@ -2,12 +2,11 @@
 use mathlib.Core.Path.{ap}
 use Rattle.table.specs.declared.Kind.{Kind}
 use Rattle.table.specs.Steps.{unit_indication, step}
-use Rattle.table.proofs.StepLaws.{does-along, does-short}
+use Rattle.table.proofs.StepLaws.{does-along, does_short}
 use Rattle.setup.proofs.unit.Goals as goal
 
 pub returns-then-out-lt-OUTPUT_LEAST : goal.returns-then-out-lt-OUTPUT_LEAST
-returns-then-out-lt-OUTPUT_LEAST c =
-    does-short _ _ _ _ _ c.if-out-lt-OUTPUT_LEAST.true c.refuse.ensures.0 c.refuse.ensures.1
+returns-then-out-lt-OUTPUT_LEAST c = does_short _ _ _ _ _ c.if-out-lt-OUTPUT_LEAST.true c.refuse.ensures.0 c.refuse.ensures.1
 
 pub returns-in-Au3 : goal.returns-in-Au3
 returns-in-Au3 c =

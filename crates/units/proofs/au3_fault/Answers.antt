@@ -1,21 +1,19 @@
 -- `units::au3_fault` meets its contract.
-use mathlib.Core.Path.{refl, sym, ◌∙◌}
-use Rattle.units.specs.Units.{first_fault, au3_fault}
-use Rattle.units.proofs.TestLaws.{agrees, differs, au3-judged}
+use Rattle.std.proofs.Common.{arith}
+use Rattle.units.specs.Units.{au3_fault, first_fault}
+use Rattle.units.proofs.TestLaws.{au3-judged}
 use Rattle.units.proofs.au3_fault.Goals as goal
 
-pub returns-then-unit-ne-SEALED_LENGTH : goal.returns-then-unit-ne-SEALED_LENGTH
+pub returns-in_err-test-2 : goal.returns-in_err-test-2
 unfolding au3_fault first_fault
-returns-then-unit-ne-SEALED_LENGTH c = simp (differs refl c.if-unit-ne-SEALED_LENGTH.true)
-
-pub returns-then-not-mac_is : goal.returns-then-not-mac_is
-unfolding au3_fault first_fault
-returns-then-not-mac_is c =
+returns-in_err-test-2 c =
     let a = c.args in
-    simp (agrees refl c.if-unit-ne-SEALED_LENGTH.false, sym (au3-judged a.key c.etcs_id.result c.au3_message-m.result a.ra a.rb a.unit.now a.own c.mac_is.result c.etcs_id.ensures c.au3_message-m.ensures c.mac_is.ensures) ∙ c.if-not-mac_is.true)
+    let judged = au3-judged a.key c.etcs_id.result c.au3_message-m.result a.ra a.rb a.unit.now a.own c.mac_is-sealed.result c.etcs_id.ensures c.au3_message-m.ensures c.mac_is-sealed.ensures in
+    grind arith
 
 pub returns : goal.returns
 unfolding au3_fault first_fault
 returns c =
     let a = c.args in
-    simp (agrees refl c.if-unit-ne-SEALED_LENGTH.false, sym (au3-judged a.key c.etcs_id.result c.au3_message-m.result a.ra a.rb a.unit.now a.own c.mac_is.result c.etcs_id.ensures c.au3_message-m.ensures c.mac_is.ensures) ∙ c.if-not-mac_is.false) c.header_fault.ensures
+    let judged = au3-judged a.key c.etcs_id.result c.au3_message-m.result a.ra a.rb a.unit.now a.own c.mac_is-sealed.result c.etcs_id.ensures c.au3_message-m.ensures c.mac_is-sealed.ensures in
+    grind arith

@@ -18,30 +18,19 @@ prepared : (d m : List ℕ) (k x : ℕ) (b : Halves) → length d ≡ 3 → k < 
     → Entered b (block (mac_string d m) k)
 prepared d m k x b three h e i = block_entered (mac_string d m) k x b (omega (arith, length-string d m three)) e i
 
-pub schedule_at-keys-requires : goal.schedule_at-keys-requires
-schedule_at-keys-requires c =
-    let p = c.requires in
-    (p.0, (omega arith, p.1.0))
-
 pub loop-k-init : goal.loop-k-init
 loop-k-init c =
     let a = c.args in
     record {
-      most = omega arith;
       chained = chain-start (block a.key.now 0) (mac_string a.destination a.m.now) c.enter-h.result c.enter-h.ensures;
       ready = prepared a.destination a.m.now 0 c.string_word.result c.enter-b.result (search rules) (omega (arith, c.blocks-last.ensures)) c.string_word.ensures c.enter-b.ensures;
     }
-
-pub encipher_halves-h-requires : goal.encipher_halves-h-requires
-encipher_halves-h-requires c =
-    c.requires.1.1
 
 pub loop-k-preserved : goal.loop-k-preserved
 loop-k-preserved c =
     let keys = c.schedule_at-keys in
     let a = c.args in
     record {
-      most = omega arith;
       chained =
           chain-step (block a.key.now 0) (mac_string a.destination a.m.now) keys.result c.loop-k.k c.loop-k.h c.loop-k.b c.add.result c.encipher_halves-h.result
           keys.ensures c.loop-k.invariant.chained c.loop-k.invariant.ready c.add.ensures c.encipher_halves-h.ensures;

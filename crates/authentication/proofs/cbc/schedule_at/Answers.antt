@@ -3,10 +3,7 @@ use Rattle.authentication.proofs.MacLaws.{keyed}
 use native.Mathlib.Omega.{arith}
 use Rattle.authentication.proofs.cbc.schedule_at.Goals as goal
 
-pub schedule_by-requires : goal.schedule_by-requires
-schedule_by-requires c = c.requires.1.1
-
 pub returns : goal.returns
 returns c =
     let a = c.args in
-    keyed a.key.now c.schedule_by.result a.n c.get64_at.result (omega arith) c.get64_at.ensures c.schedule_by.ensures
+    keyed a.key.now c.schedule.result a.n c.get64_at.result (omega arith) c.get64_at.ensures c.schedule.ensures

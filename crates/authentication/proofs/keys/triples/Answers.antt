@@ -1,5 +1,9 @@
 -- `authentication::keys::triples` meets its contract.
+use mathlib.Core.Path.{◌≡◌, sym, ◌∙◌}
 use mathlib.Core.List.{List}
+use native.Mathlib.Omega.{arith}
+use lib.Dec.{lit<}
+use lib.ListN.{length}
 use Prim.Native.Nat.{ℕ}
 use Rattle.fast_des.specs.declared.Halves.{Halves}
 use Rattle.des.specs.Bits.{bits}
@@ -21,18 +25,17 @@ through k1 k2 k3 x r h a b d e p q s out =
 
 pub returns : goal.returns
 returns c =
-    let x = c.enter-left in
-    let y = c.enter in
-    let a = c.encipher_three-a in
-    let b = c.decipher_three-b in
-    let d = c.encipher_three-c in
-    let t = c.args in (
-      through t.k1 t.k2 t.k3 t.x c.leave.result x.result a.result.one b.result.one d.result.one x.ensures a.ensures.0 b.ensures.0 d.ensures.0
-          c.leave.ensures,
+    let t = c.args in
+    let h : Halves = record { left = 0; right = 0 } in
+    let x = c.enter-left.ensures in
+    let a = c.encipher.ensures in
+    let b = c.decipher.ensures in
+    let d = c.encipher-2.ensures in
+    let lb : 2 ≡ length c.encipher.result.0 = sym a.0.long in
+    let ld : 2 ≡ length c.decipher.result.0 = lb ∙ sym b.0.long in (
+      through t.k1 t.k2 t.k3 t.x _ _ _ _ _ x (a.0.by 0 h (lit< tt)) (b.0.by 0 h (omega arith)) (d.0.by 0 h (omega arith)) c.leave.ensures,
       (
-        through t.k1 t.k2 t.k3 t.y c.leave-2.result y.result a.result.two b.result.two d.result.two y.ensures a.ensures.1.0 b.ensures.1.0 d.ensures.1.0
-            c.leave-2.ensures,
-        through t.k3 t.k2 t.k1 t.x c.leave-3.result x.result a.result.three b.result.three d.result.three x.ensures a.ensures.1.1 b.ensures.1.1 d.ensures.1.1
-            c.leave-3.ensures,
+        through t.k1 t.k2 t.k3 t.y _ _ _ _ _ c.enter.ensures (a.0.by 1 h (lit< tt)) (b.0.by 1 h (omega arith)) (d.0.by 1 h (omega arith)) c.leave-2.ensures,
+        through t.k3 t.k2 t.k1 t.x _ _ _ _ _ x a.1 b.1 d.1 c.leave-3.ensures,
       ),
     )

@@ -2,21 +2,11 @@
 use borrow.Author.Rules.{rules}
 use mathlib.Core.Path.{sym, ◌∙◌}
 use Prim.Native.Nat.{◌*◌}
-use borrow.Author.Tests.{leb-true}
 use native.Mathlib.Omega.{arith}
 use Rattle.authentication.proofs.StringLaws.{number_past}
 use Rattle.authentication.proofs.string.string_word.Goals as goal
-
-pub get64_at-requires : goal.get64_at-requires
-get64_at-requires c = omega (arith, leb-true)
 
 pub returns-then-k-m : goal.returns-then-k-m
 returns-then-k-m c =
     let a = c.args in
     c.get64_at.ensures ∙ sym (number_past a.destination a.m.now (search rules) 8 (8 * a.k) (omega arith))
-
-pub word_by_bytes-requires : goal.word_by_bytes-requires
-word_by_bytes-requires c = c.requires
-
-pub returns : goal.returns
-returns c = c.word_by_bytes.ensures

@@ -1,18 +1,13 @@
 -- `authentication::unit::mac_right` meets its contract.
 use mathlib.Core.Path.{◌≡◌, ap, ◌∙◌}
 use Prim.Native.Nat.{◌-◌}
-use lib.ListN.{length, take, drop, length-take, length-drop}
+use lib.ListN.{length, take, drop, length-drop}
 use lib.Seq.{take_all}
 use Rattle.octets.specs.Bytes.{same}
 use Rattle.authentication.specs.Mac.{mac}
 use Rattle.authentication.specs.Unit.{body, mac_of}
 use native.Mathlib.Omega.{arith}
 use Rattle.authentication.proofs.unit.mac_right.Goals as goal
-
-pub slice_bounds-is_mac-end : goal.slice_bounds-is_mac-end
-slice_bounds-is_mac-end c =
-    let u = c.args.unit.now in
-    omega (arith, length-take (length u - 8) u)
 
 pub returns : goal.returns
 unfolding body mac_of

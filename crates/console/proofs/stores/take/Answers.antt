@@ -4,24 +4,23 @@ use Rattle.console.specs.Bench.{store_of}
 use Rattle.console.proofs.BenchLaws.{edition-length, large-kept, large-taken, store_kept, store-taken}
 use Rattle.console.proofs.stores.take.Goals as goal
 
-pub copy-requires : goal.copy-requires
-copy-requires c =
-    let e = edition-length c.decode-n.result c.in-Known.field-0 (sym c.edition_of.ensures ∙ c.in-Known.is) in
-    (omega (arith, e.0, c.requires), omega (arith, c.decode-n.ensures.counts))
+pub slice_bounds-copy_from_slice-end : goal.slice_bounds-copy_from_slice-end
+slice_bounds-copy_from_slice-end c =
+    omega (arith, (edition-length c.decode-n.result c.in-Some.field-0 (sym c.edition_of.ensures ∙ c.in-Some.is)).0)
 
-pub returns-in-Known : goal.returns-in-Known
-returns-in-Known c =
+pub returns-in-Some : goal.returns-in-Some
+returns-in-Some c =
     let a = c.args in (
-      large-taken a.text.now c.word-w.result.now c.decode-n.new.out c.decode-n.result c.word-w.ensures c.decode-n.ensures a.large
-          c.in-Known.field-0 (sym c.edition_of.ensures ∙ c.in-Known.is),
-      store-taken a.text.now c.word-w.result.now c.decode-n.new.out c.decode-n.result c.word-w.ensures c.decode-n.ensures (store_of a.large a.store.now) a.store.now c.copy.new.s
-          c.in-Known.field-0 (sym c.edition_of.ensures ∙ c.in-Known.is) c.copy.ensures,
+      large-taken a.text.now c.word.result.now c.decode-n.new.out c.decode-n.result c.word.ensures c.decode-n.ensures a.large
+          c.in-Some.field-0 (sym c.edition_of.ensures ∙ c.in-Some.is),
+      store-taken a.text.now c.word.result.now c.decode-n.new.out c.decode-n.result c.word.ensures c.decode-n.ensures (store_of a.large a.store.now) c.copy_from_slice.new.self _
+          c.in-Some.field-0 (sym c.edition_of.ensures ∙ c.in-Some.is) c.copy_from_slice.ensures.after,
     )
 
-pub returns-in-Unknown : goal.returns-in-Unknown
-returns-in-Unknown c =
+pub returns-in-None : goal.returns-in-None
+returns-in-None c =
     let a = c.args in (
-      large-kept a.text.now c.word-w.result.now c.decode-n.new.out c.decode-n.result c.word-w.ensures c.decode-n.ensures a.large
-          (sym c.edition_of.ensures ∙ c.in-Unknown.is),
-      store_kept a.text.now c.word-w.result.now c.decode-n.new.out c.decode-n.result c.word-w.ensures c.decode-n.ensures (store_of a.large a.store.now) (sym c.edition_of.ensures ∙ c.in-Unknown.is),
+      large-kept a.text.now c.word.result.now c.decode-n.new.out c.decode-n.result c.word.ensures c.decode-n.ensures a.large
+          (sym c.edition_of.ensures ∙ c.in-None.is),
+      store_kept a.text.now c.word.result.now c.decode-n.new.out c.decode-n.result c.word.ensures c.decode-n.ensures (store_of a.large a.store.now) (sym c.edition_of.ensures ∙ c.in-None.is),
     )

@@ -11,4 +11,4 @@ returns c =
     let a = c.args in
     c.inverse_initial.ensures.same
     ∙ ap (permute ip_inverse)
-    (c.exchange.ensures ∙ ap (swap 32) (c.iterate-s.ensures ∙ ap (rounds (keys_of a.keys a.back) 16) c.initial.ensures.same))
+    (c.exchange.ensures ∙ ap (swap 32) (c.iterations-s.ensures ∙ ap (rounds (keys_of a.keys a.back) 16) c.initial.ensures.same))

@@ -16,32 +16,26 @@ next ks n l s t k hs ht hk = ht ∙ ap₂ Des.round hk hs ∙ ap (λ (m : ℕ). 
 
 pub loop-n-init : goal.loop-n-init
 unfolding Des.rounds
-loop-n-init c = (omega arith, refl)
+loop-n-init c = refl
 
-pub turn-at-requires : goal.turn-at-requires
-turn-at-requires c = c.loop-n-test.true
+pub turn-requires : goal.turn-requires
+turn-requires c = c.loop-n-test.true
 
-pub offset_bounds-keys-at : goal.offset_bounds-keys-at
-offset_bounds-keys-at c = omega (arith, turned-below c.args.back c.loop-n.n c.turn-at.result c.loop-n-test.true c.turn-at.ensures)
+pub offset_bounds-keys-turn : goal.offset_bounds-keys-turn
+offset_bounds-keys-turn c = omega (arith, turned-below c.args.back c.loop-n.n c.turn.result c.loop-n-test.true c.turn.ensures)
 
-pub bounds-keys-at : goal.bounds-keys-at
-bounds-keys-at c = turned-below c.args.back c.loop-n.n c.turn-at.result c.loop-n-test.true c.turn-at.ensures
-
-pub round-s-requires : goal.round-s-requires
-round-s-requires c =
-    c.requires
+pub bounds-keys-turn : goal.bounds-keys-turn
+bounds-keys-turn c = turned-below c.args.back c.loop-n.n c.turn.result c.loop-n-test.true c.turn.ensures
 
 pub loop-n-preserved : goal.loop-n-preserved
 loop-n-preserved c =
     let a = c.args in
-    let keys = a.keys in (
-      omega arith,
-      next (keys_of keys a.back) c.loop-n.n (bits 64 a.lr) (bits 64 c.loop-n.s) (bits 64 c.round-s.result)
-          (bits 48 (get_or keys c.turn-at.result 0)) c.loop-n.invariant.1 c.round-s.ensures (ap (λ (m : ℕ). bits 48 (get_or keys m 0)) c.turn-at.ensures),
-    )
+    let keys = a.keys in
+    next (keys_of keys a.back) c.loop-n.n (bits 64 a.lr) (bits 64 c.loop-n.s) (bits 64 c.round-s.result)
+    (bits 48 (get_or keys c.turn.result 0)) c.loop-n.invariant c.round-s.ensures (ap (λ (m : ℕ). bits 48 (get_or keys m 0)) c.turn.ensures)
 
 pub returns : goal.returns
 returns c =
     let a = c.args in
     let e : c.loop-n.n ≡ 16 = omega arith in
-    c.loop-n.invariant.1 ∙ ap (λ (m : ℕ). Des.rounds (keys_of a.keys a.back) m (bits 64 a.lr)) e
+    c.loop-n.invariant ∙ ap (λ (m : ℕ). Des.rounds (keys_of a.keys a.back) m (bits 64 a.lr)) e

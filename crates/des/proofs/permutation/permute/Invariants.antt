@@ -1,13 +1,11 @@
--- `des::permutation::permute` meets its contract. The loop's invariant: the result holds the bits that the first i rows name.
-use Prim.Native.Nat.{◌*◌, ◌≤◌, ◌-◌}
-use Rattle.octets.specs.Bytes.{part}
-use Rattle.des.specs.Bits.{bits}
-use Rattle.des.specs.Des as Des
-use Rattle.des.specs.Words.{Holds}
+-- `des::permutation::permute` meets its contract. The loop's invariant: the result holds the bits that the rows passed name.
+use Rattle.std.proofs.Common.{◌≡◌}
+use Rattle.std.specs.Slice.Iter.{chunks_exact_rest, chunks_exact_size}
+use Rattle.des.proofs.TableLaws.{Passed}
 use Rattle.des.proofs.permutation.permute.Given as goal
 
-abbrev pub invariant-loop-i : goal.invariant-loop-i
-invariant-loop-i l = (l.i ≤ 8) × Holds (l.n * l.i) l.r (Des.permute (part l.table 0 (l.n * l.i)) (bits l.width l.x))
-
-abbrev pub decreases-loop-i : goal.decreases-loop-i
-decreases-loop-i l = 8 - l.i
+abbrev pub invariant-loop-row : goal.invariant-loop-row
+invariant-loop-row l = record {
+  size : chunks_exact_size l.row-iterator ≡ l.n;
+  passed : Passed l.width l.n l.x l.r l.table (chunks_exact_rest l.row-iterator);
+}

@@ -1,13 +1,9 @@
--- `des::permutation::permute_row` meets its contract. The loop's invariant: the result holds the bits that the first i entries name.
-use Prim.Native.Nat.{◌≤◌, ◌-◌}
-use Rattle.octets.specs.Bytes.{part}
+-- `des::permutation::permute_row` meets its contract. The loop's invariant: the result holds the bits that the first entries name.
+use Rattle.std.proofs.Common.{take}
 use Rattle.des.specs.Bits.{bits}
 use Rattle.des.specs.Des as Des
 use Rattle.des.specs.Words.{Holds}
 use Rattle.des.proofs.permutation.permute_row.Given as goal
 
-abbrev pub invariant-loop-i : goal.invariant-loop-i
-invariant-loop-i l = (l.i ≤ l.n) × Holds l.i l.r (Des.permute (part l.table l.from l.i) (bits l.width l.x))
-
-abbrev pub decreases-loop-i : goal.decreases-loop-i
-decreases-loop-i l = l.n - l.i
+abbrev pub invariant-loop-bit : goal.invariant-loop-bit
+invariant-loop-bit l = Holds l.bit-index l.r (Des.permute (take l.bit-index l.row) (bits l.width l.x))

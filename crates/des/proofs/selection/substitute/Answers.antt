@@ -11,19 +11,16 @@ use Rattle.des.proofs.selection.substitute.Goals as goal
 
 pub loop-k-init : goal.loop-k-init
 unfolding bits selects
-loop-k-init c = (omega arith, record { fits = lit< tt; same = refl })
+loop-k-init c = record { fits = lit< tt; same = refl }
 
 pub select-requires : goal.select-requires
 select-requires c =
-    (c.loop-k-test.true, (mask_lt (c.args.x / 2 ^ (42 - 6 * c.loop-k.k)) 6, c.requires))
+    (c.loop-k-test.true, mask_lt (c.args.x / 2 ^ (42 - 6 * c.loop-k.k)) 6)
 
 pub loop-k-preserved : goal.loop-k-preserved
-loop-k-preserved c = (
-  omega arith,
-  selects-step c.loop-k.k c.args.x c.loop-k-test.true c.loop-k.invariant.1 c.select.ensures,
-)
+loop-k-preserved c = selects-step c.loop-k.k c.args.x c.loop-k-test.true c.loop-k.invariant c.select.ensures
 
 pub returns : goal.returns
 returns c =
     let e : c.loop-k.k ≡ 8 = omega arith in
-    subst (λ (n : ℕ). Holds (4 * n) c.loop-k.r (selects n (bits 48 c.args.x))) e c.loop-k.invariant.1
+    subst (λ (n : ℕ). Holds (4 * n) c.loop-k.r (selects n (bits 48 c.args.x))) e c.loop-k.invariant

@@ -1,12 +1,9 @@
 -- `des::selection::substitute` meets its contract. The loop's invariant: the result holds what the first k S-boxes select.
-use Prim.Native.Nat.{◌≤◌, ◌*◌, ◌-◌}
+use Prim.Native.Nat.{◌*◌}
 use Rattle.des.specs.Bits.{bits}
 use Rattle.des.specs.Des.{selects}
 use Rattle.des.specs.Words.{Holds}
 use Rattle.des.proofs.selection.substitute.Given as goal
 
 abbrev pub invariant-loop-k : goal.invariant-loop-k
-invariant-loop-k l = (l.k ≤ 8) × Holds (4 * l.k) l.r (selects l.k (bits 48 l.x))
-
-abbrev pub decreases-loop-k : goal.decreases-loop-k
-decreases-loop-k l = 8 - l.k
+invariant-loop-k l = Holds (4 * l.k) l.r (selects l.k (bits 48 l.x))

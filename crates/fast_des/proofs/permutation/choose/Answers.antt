@@ -13,10 +13,10 @@ use Rattle.fast_des.proofs.ChoiceLaws.{after, two_groups, two-chosen}
 use Rattle.fast_des.proofs.permutation.choose.Goals as goal
 
 pub bounds-groups-left : goal.bounds-groups-left
-bounds-groups-left c = omega (arith, ap length c.requires.1.1 ∙ length-pc2_groups)
+bounds-groups-left c = omega (arith, ap length c.groups_table-groups.ensures ∙ length-pc2_groups)
 
 pub bounds-groups-right : goal.bounds-groups-right
-bounds-groups-right c = omega (arith, ap length c.requires.1.1 ∙ length-pc2_groups)
+bounds-groups-right c = omega (arith, ap length c.groups_table-groups.ensures ∙ length-pc2_groups)
 
 pub returns : goal.returns
 returns c =
@@ -24,5 +24,5 @@ returns c =
     let p = c.requires in
     let left = 16 * after a.i a.k + a.c in
     let right = 16 * (7 + after a.i a.k) + a.d in
-    subst⁻¹ (λ (g : List ℕ). Holds 48 (bit_xor (get_or g left 0) (get_or g right 0)) (permute pc2 (shift_both (4 * a.k) (two_groups a.i a.c a.d)))) p.1.1
-    (two-chosen a.i a.k a.c a.d p.0.0 p.0.1 p.1.0.0 p.1.0.1)
+    subst⁻¹ (λ (g : List ℕ). Holds 48 (bit_xor (get_or g left 0) (get_or g right 0)) (permute pc2 (shift_both (4 * a.k) (two_groups a.i a.c a.d)))) c.groups_table-groups.ensures
+    (two-chosen a.i a.k a.c a.d p.0.0 p.0.1 p.1.0 p.1.1)

@@ -19,10 +19,10 @@ pub offset_bounds-table-at : goal.offset_bounds-table-at
 offset_bounds-table-at c = omega (arith, (mask_lt (c.args.x / 2 ^ (42 - 6 * c.args.k)) 6))
 
 pub bounds-table-at : goal.bounds-table-at
-bounds-table-at c = omega (arith, (mask_lt (c.args.x / 2 ^ (42 - 6 * c.args.k)) 6), (ap length c.requires.1 ∙ length-joined))
+bounds-table-at c = omega (arith, (mask_lt (c.args.x / 2 ^ (42 - 6 * c.args.k)) 6), (ap length c.joined_table-table.ensures ∙ length-joined))
 
 pub returns : goal.returns
 returns c =
     let k = c.args.k in
     let g = bit_and (c.args.x / 2 ^ (42 - 6 * k)) 63 in
-    subst⁻¹ (λ (n : ℕ). Holds 48 n (permute e (moved k g))) (ap (λ (l : List ℕ). get_or l (64 * k + g) 0) c.requires.1) (joined_at k g c.requires.0 (mask_lt (c.args.x / 2 ^ (42 - 6 * k)) 6))
+    subst⁻¹ (λ (n : ℕ). Holds 48 n (permute e (moved k g))) (ap (λ (l : List ℕ). get_or l (64 * k + g) 0) c.joined_table-table.ensures) (joined_at k g c.requires (mask_lt (c.args.x / 2 ^ (42 - 6 * k)) 6))

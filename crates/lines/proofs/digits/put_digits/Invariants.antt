@@ -1,13 +1,9 @@
 -- `lines::digits::put_digits` meets its contract. The loop's invariant: the digits of the first i bytes are written.
 use mathlib.Core.Path.{◌≡◌}
-use Prim.Native.Nat.{◌-◌, ◌≤◌}
-use lib.ListN.{length, take}
+use lib.ListN.{take}
 use Rattle.octets.specs.Bytes.{splice}
 use Rattle.lines.specs.Digits.{to_hex}
 use Rattle.lines.proofs.digits.put_digits.Given as goal
 
 abbrev pub invariant-loop-i : goal.invariant-loop-i
-invariant-loop-i l = (l.i ≤ l.n) × (length l.out ≡ length l.initial.out) × (l.out ≡ splice l.initial.out 0 (to_hex (take l.i l.s)))
-
-abbrev pub decreases-loop-i : goal.decreases-loop-i
-decreases-loop-i l = l.n - l.i
+invariant-loop-i l = l.out ≡ splice l.initial.out 0 (to_hex (take l.i l.s))

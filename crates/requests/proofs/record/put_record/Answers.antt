@@ -5,5 +5,5 @@ use Rattle.requests.proofs.record.put_record.Goals as goal
 pub returns : goal.returns
 returns c =
     let a = c.args in
-    record_written a.s.now a.m.now a.i a.p a.new c.put_key.new.s c.put_period.new.s c.put_share.new.s
-    c.requires.0 c.requires.1 c.put_key.ensures c.put_period.ensures c.put_share.ensures
+    record_written a.s.now a.i a.p a.new c.put_key.new.s c.put_period.new.s c.put_share.new.s
+    c.requires a.new.kmac_long c.put_key.ensures c.put_period.ensures (rw c.count.ensures at c.put_share.ensures)

@@ -4,4 +4,4 @@ use Rattle.self_test.proofs.tables.group_entry.Goals as goal
 
 pub returns : goal.returns
 returns c =
-    group-worked c.args.i c.args.v c.requires.0.0 c.requires.0.1 c.choice2.ensures
+    group-worked c.args.i c.args.v c.requires.0 c.requires.1 c.choice2.ensures

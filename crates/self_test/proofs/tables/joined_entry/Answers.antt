@@ -4,4 +4,4 @@ use Rattle.self_test.proofs.tables.joined_entry.Goals as goal
 
 pub returns : goal.returns
 returns c =
-    joined-worked c.args.k c.args.g c.requires.0.0 c.requires.0.1 c.select.ensures c.permute_p.ensures c.expand.ensures
+    joined-worked c.args.k c.args.g c.requires.0 c.requires.1 c.select.ensures c.permute_p.ensures c.expand.ensures

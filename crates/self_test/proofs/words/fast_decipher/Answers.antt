@@ -8,4 +8,4 @@ returns c =
     let a = c.args in
     let key = bits 64 a.key in
     let x = bits 64 a.x in
-    c.leave.ensures.by (decipher_bits key x) (c.decipher_halves.ensures.by key x c.schedule_by-keys.ensures c.enter.ensures)
+    c.leave.ensures.by (decipher_bits key x) (c.decipher_halves.ensures.by key x c.schedule-keys.ensures c.enter.ensures)

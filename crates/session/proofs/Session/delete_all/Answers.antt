@@ -10,4 +10,5 @@ pub returns : goal.returns
 unfolding obey
 returns c =
     let a = c.args in
-    does_as (ap (λ (t : List ℕ). respond 0 [] Open a.self a.m.now t a.out.now) c.write_empty.ensures) (c.report.ensures.by c.write_empty.new.s a.out.now [] refl (omega (arith, c.requires.3)) (sym (splice-none a.out.now 23)))
+    does_as (ap (λ (t : List ℕ). respond 0 [] Open a.self a.m.bytes.now t a.out.now) c.write_empty.ensures)
+    (c.report.ensures.by c.write_empty.new.s a.out.now [] refl (omega arith) (sym (splice-none a.out.now 23)))

@@ -18,22 +18,22 @@ random_of-rb-requires c =
 pub kmac-requires : goal.kmac-requires
 kmac-requires c =
     let a = c.args in
-    place_inside a.store.now a.own c.sender_of-peer.result a.t c.in-At.place (searched c.search.ensures c.in-At.is)
+    place_inside a.store.now a.own c.sender_of-peer.result a.t c.in-Ok.place (searched c.search.ensures c.in-Ok.is)
 
 pub send_au2-requires : goal.send_au2-requires
 send_au2-requires c =
     let a = c.args in
-    (made_type a.store.now a.own c.sender_of-peer.result a.t c.in-At.place (searched c.search.ensures c.in-At.is) c.waiting.ensures refl, c.requires.1.0)
+    (made_type a.store.now a.own c.sender_of-peer.result a.t c.in-Ok.place (searched c.search.ensures c.in-Ok.is) c.waiting.ensures refl, c.requires.1.0)
 
-pub returns-in-At : goal.returns-in-At
-returns-in-At c =
+pub returns-in-Ok : goal.returns-in-Ok
+returns-in-Ok c =
     let a = c.args in
-    indication-answered a.own a.t a.ra a.unit.now a.store.now a.c a.out.now c.requires.1.0 c.requires.0 c.requires.1.1 c.in-At.place
-    (search rules) c.sender_of-peer.ensures (searched c.search.ensures c.in-At.is) c.random_of-rb.ensures
+    indication-answered a.own a.t a.ra a.unit.now a.store.now a.c a.out.now c.requires.1.0 c.requires.0 c.requires.1.1 c.in-Ok.place
+    (search rules) c.sender_of-peer.ensures (searched c.search.ensures c.in-Ok.is) c.random_of-rb.ensures
     c.kmac.ensures c.waiting.ensures c.send_au2.ensures.0 c.send_au2.ensures.1 c.send_au2.ensures.2
 
-pub returns-in-Refused : goal.returns-in-Refused
-returns-in-Refused c =
+pub returns-in-Err : goal.returns-in-Err
+returns-in-Err c =
     let a = c.args in
-    indication-refused a.own a.t a.ra a.unit.now a.store.now a.c a.out.now c.requires.1.0 c.requires.0 c.requires.1.1 c.in-Refused.h
-    c.sender_of-peer.ensures (searched c.search.ensures c.in-Refused.is) c.refuse.ensures.0 c.refuse.ensures.1
+    indication-refused a.own a.t a.ra a.unit.now a.store.now a.c a.out.now c.requires.1.0 c.requires.0 c.requires.1.1 c.in-Err.h
+    c.sender_of-peer.ensures (searched c.search.ensures c.in-Err.is) c.refuse.ensures.0 c.refuse.ensures.1

@@ -15,22 +15,22 @@ returns-then-not-acceptable c =
 pub kmac-requires : goal.kmac-requires
 kmac-requires c =
     let a = c.args in
-    place_inside a.store.now a.own a.peer a.t c.in-At.place (searched c.search.ensures c.in-At.is)
+    place_inside a.store.now a.own a.peer a.t c.in-Ok.place (searched c.search.ensures c.in-Ok.is)
 
 pub send_au1-requires : goal.send_au1-requires
 send_au1-requires c =
     let a = c.args in
-    (made_type a.store.now a.own a.peer a.t c.in-At.place (searched c.search.ensures c.in-At.is) c.waiting.ensures refl, c.requires.1)
+    (made_type a.store.now a.own a.peer a.t c.in-Ok.place (searched c.search.ensures c.in-Ok.is) c.waiting.ensures refl, c.requires.1)
 
-pub returns-in-At : goal.returns-in-At
-returns-in-At c =
+pub returns-in-Ok : goal.returns-in-Ok
+returns-in-Ok c =
     let a = c.args in
-    request-sent a.acceptable a.own a.peer a.t a.rb a.store.now a.c a.out.now c.in-At.place c.requires.1 c.requires.0 (ap not c.if-not-acceptable.false)
-    (search rules) (searched c.search.ensures c.in-At.is) c.kmac.ensures c.waiting.ensures
+    request-sent a.acceptable a.own a.peer a.t a.rb a.store.now a.c a.out.now c.in-Ok.place c.requires.1 c.requires.0 (ap not c.if-not-acceptable.false)
+    (search rules) (searched c.search.ensures c.in-Ok.is) c.kmac.ensures c.waiting.ensures
     c.send_au1.ensures.0 c.send_au1.ensures.1 c.send_au1.ensures.2
 
-pub returns-in-Refused : goal.returns-in-Refused
-returns-in-Refused c =
+pub returns-in-Err : goal.returns-in-Err
+returns-in-Err c =
     let a = c.args in
-    request-refused a.acceptable a.own a.peer a.t a.rb a.store.now a.c a.out.now c.in-Refused.h c.requires.1 c.requires.0 (ap not c.if-not-acceptable.false)
-    (searched c.search.ensures c.in-Refused.is) c.refuse.ensures.0 c.refuse.ensures.1
+    request-refused a.acceptable a.own a.peer a.t a.rb a.store.now a.c a.out.now c.in-Err.h c.requires.1 c.requires.0 (ap not c.if-not-acceptable.false)
+    (searched c.search.ensures c.in-Err.is) c.refuse.ensures.0 c.refuse.ensures.1

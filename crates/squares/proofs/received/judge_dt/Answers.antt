@@ -14,15 +14,9 @@ use Rattle.table.specs.Steps.{carried}
 use Rattle.table.proofs.UnitLaws.{unit-quiet, dt-accepted}
 use Rattle.squares.proofs.received.judge_dt.Goals as goal
 
--- what check answered, of the own identity
-pub refuse_dt-requires : goal.refuse_dt-requires
-refuse_dt-requires c =
-    let judged = ap (λ (d : List ℕ). checked c.args.unit.now c.args.c.key d (not c.args.c.responder)) (sym c.etcs_id.ensures) ∙ sym c.check.ensures in
-    (c.requires.0, (c.requires.1, judged ∙ ap checked_as c.in-Refused.is))
-
-pub returns-in-Accepted : goal.returns-in-Accepted
+pub returns-in-Ok : goal.returns-in-Ok
 unfolding carried square row_in table
-returns-in-Accepted c =
+returns-in-Ok c =
     let judged = ap (λ (d : List ℕ). checked c.args.unit.now c.args.c.key d (not c.args.c.responder)) (sym c.etcs_id.ensures) ∙ sym c.check.ensures in
-    unit-quiet Dt DATA (record { when = ok; why = code 0 0; count = c.in-Accepted.n }) (square_of SaDataInd Quiet Keep (to DATA)) _ _ _ c.requires.1 c.requires.0
-    (dt-accepted _ _ _ (judged ∙ ap checked_as c.in-Accepted.is)) refl refl refl c.acting.ensures.0 (c.acting.ensures.1 ∙ c.entering.ensures)
+    unit-quiet Dt DATA (record { when = ok; why = code 0 0; count = c.in-Ok.n }) (square_of SaDataInd Quiet Keep (to DATA)) _ _ _ c.requires.1 c.requires.0
+    (dt-accepted _ _ _ (judged ∙ ap checked_as c.in-Ok.is)) refl refl refl c.acting.ensures.0 (c.acting.ensures.1 ∙ c.entering.ensures)

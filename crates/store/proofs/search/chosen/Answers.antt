@@ -1,56 +1,66 @@
-use mathlib.Core.Path.{sym, ◌∙◌}
+-- `store::search::chosen` meets its contract.
+use mathlib.Core.Path.{sym, subst, ◌∙◌}
+use Prim.Native.Nat.{ℕ, ◌-◌}
 use native.Mathlib.Omega.{arith}
-use Rattle.store.specs.Search.{serves}
-use Rattle.store.proofs.SoundLaws.{sound-says}
-use Rattle.store.proofs.LatestLaws.{best_start, best_here, best_past, best_less, best_all}
+use borrow.Author.Tests.{leb-true, leb-false}
+use Rattle.std.specs.Prelude.{None}
+use Rattle.store.specs.Store.{key_count}
+use Rattle.store.specs.Search.{serves, end_of}
+use Rattle.store.proofs.SoundLaws.{sound_says}
+use Rattle.store.proofs.DecodeLaws.{entries-length}
+use Rattle.store.proofs.LatestLaws.{Best, Held, place_held, best_start, best_here, best_past, best_less, held_taken}
+use Rattle.store.proofs.search.chosen.Goals.{else-is_no_later-via-then-is_no_later+else-serves_at, else-is_no_later-via-else-is_no_later}
 use Rattle.store.proofs.search.chosen.Goals as goal
 
-pub number_at-n-requires : goal.number_at-n-requires
-number_at-n-requires c =
-    let w = sound-says c.args.lim c.args.s.now c.requires in
+pub number_at-i-requires : goal.number_at-i-requires
+number_at-i-requires c =
+    let w = sound_says c.args.lim c.args.s.now c.requires in
     omega arith
 
 pub loop-i-init : goal.loop-i-init
 loop-i-init c =
     let a = c.args in
-    (omega arith, c.number_at-n.ensures.0, best_start (serves a.peer a.t) a.lim a.s.now c.number_at-n.result)
-
-pub end_at-e-requires : goal.end_at-e-requires
-end_at-e-requires c =
-    record { s_value = c.requires; i_bound = omega arith }
-
-pub serves_at-requires : goal.serves_at-requires
-serves_at-requires c =
-    record { s_value = c.requires; i_bound = omega arith }
+    let p = serves a.peer a.t in
+    let n = key_count a.s.now in
+    subst (λ (i : ℕ). Held p a.lim a.s.now n i None) (sym c.number_at-i.ensures.0) (record { best = best_start p a.lim a.s.now n; within = tt })
 
 pub loop-i-preserved-then-serves_at : goal.loop-i-preserved-then-serves_at
 loop-i-preserved-then-serves_at c =
-    let a = c.args in (
-      omega arith,
-      c.loop-i.invariant.1,
-      best_here (serves a.peer a.t) a.lim a.s.now c.number_at-n.result c.loop-i.i c.loop-i.place c.loop-i.«end» (omega arith)
-          c.loop-i.invariant.0 c.loop-i.invariant.2 c.end_at-e.result c.end_at-e.ensures (sym c.serves_at.ensures ∙ c.if-serves_at.true) c.if-end-e.true,
-    )
-
-pub loop-i-preserved-else-serves_at : goal.loop-i-preserved-else-serves_at
-loop-i-preserved-else-serves_at c =
-    let a = c.args in (
-      omega arith,
-      c.loop-i.invariant.1,
-      best_past (serves a.peer a.t) a.lim a.s.now c.number_at-n.result c.loop-i.i c.loop-i.place c.loop-i.«end» (omega arith)
-          c.loop-i.invariant.0 c.loop-i.invariant.2 (sym c.serves_at.ensures ∙ c.if-serves_at.false),
-    )
+    let a = c.args in
+    let p = serves a.peer a.t in
+    let i = c.loop-i.i in
+    let n = key_count a.s.now in
+    let held = c.loop-i.taken in
+    let e = c.end_at-end.result in
+    let later = leb-true (end_of held) e (sym c.is_no_later.ensures ∙ c.if-is_no_later.true) in
+    record {
+      best =
+          subst (λ (x : ℕ). Best p a.lim a.s.now n (i - 1) x e) (omega arith)
+          (best_here p a.lim a.s.now n i (place_held held n) (end_of held) (omega arith) (omega arith) c.loop-i.invariant.best e c.end_at-end.ensures
+          (sym c.serves_at.ensures ∙ c.if-serves_at.true) later);
+      within = (omega arith, omega arith);
+    }
 
 pub loop-i-preserved : goal.loop-i-preserved
 loop-i-preserved c =
-    let a = c.args in (
-      omega arith,
-      c.loop-i.invariant.1,
-      best_less (serves a.peer a.t) a.lim a.s.now c.number_at-n.result c.loop-i.i c.loop-i.place c.loop-i.«end» (omega arith)
-          c.loop-i.invariant.0 c.loop-i.invariant.2 c.end_at-e.result c.end_at-e.ensures c.if-end-e.false,
-    )
+    let a = c.args in
+    let p = serves a.peer a.t in
+    let n = key_count a.s.now in
+    let i = c.loop-i.i in
+    let held = c.loop-i.taken in
+    let past = place_held held n in
+    record {
+      best = elim c.else-is_no_later.branch [
+        | else-is_no_later-via-then-is_no_later+else-serves_at w ↦
+            best_past p a.lim a.s.now n i past (end_of held) (omega arith) (omega arith) c.loop-i.invariant.best (sym w.serves_at.ensures ∙ w.if-serves_at.false)
+        | else-is_no_later-via-else-is_no_later w ↦
+            best_less p a.lim a.s.now n i past (end_of held) (omega arith) (omega arith) c.loop-i.invariant.best c.end_at-end.result c.end_at-end.ensures
+            (leb-false (end_of held) c.end_at-end.result (sym c.is_no_later.ensures ∙ w.if-is_no_later.false))
+      ];
+      within = c.loop-i.invariant.within;
+    }
 
 pub returns : goal.returns
 returns c =
     let a = c.args in
-    best_all (serves a.peer a.t) a.lim a.s.now c.number_at-n.result c.loop-i.i c.loop-i.place c.loop-i.«end» (omega arith) c.loop-i.invariant.1 c.loop-i.invariant.2
+    held_taken (serves a.peer a.t) a.lim a.s.now (key_count a.s.now) c.loop-i.i c.loop-i.taken (omega arith) (λ i. key_count a.s.now) (entries-length a.lim a.s.now) c.loop-i.invariant

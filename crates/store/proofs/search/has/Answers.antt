@@ -1,27 +1,16 @@
-use mathlib.Core.Path.{sym, ◌∙◌}
+use Rattle.std.proofs.Common.{rules, ◌+◌, ◌*◌}
+use mathlib.Core.Path.{refl, ◌∙◌}
 use native.Mathlib.Omega.{arith}
-use native.Mathlib.Nat.{sub-zero}
-use Rattle.octets.proofs.WordLaws.{elem_turn, elem-here, elem_end}
+use lib.Dec.{eqb}
+use Rattle.std.proofs.lemmas.Iterator.{YieldsList-from_range}
+use Rattle.std.proofs.lemmas.Iterator.Search.{any_from_yields_List}
+use borrow.Author.Tests.{tests}
+use Rattle.octets.specs.Bytes.{get32}
+use Rattle.store.proofs.ChainLaws.{elem-range}
 use Rattle.store.proofs.search.has.Goals as goal
-
-pub loop-k-init : goal.loop-k-init
-loop-k-init c = (omega arith, omega arith, omega arith, rw sub-zero)
-
-pub returns-then-get32_at-x : goal.returns-then-get32_at-x
-returns-then-get32_at-x c =
-    let a = c.args in
-    sym (c.loop-k.invariant.3 ∙ elem-here a.x a.s.now c.loop-k.a a.n c.loop-k.k (omega arith) (sym c.get32_at.ensures ∙ c.if-get32_at-x.true))
-
-pub loop-k-preserved : goal.loop-k-preserved
-loop-k-preserved c =
-    let a = c.args in (
-      omega arith,
-      omega arith,
-      omega arith,
-      c.loop-k.invariant.3 ∙ elem_turn a.x a.s.now c.loop-k.a a.n c.loop-k.k (omega arith) (λ e. c.if-get32_at-x.false (c.get32_at.ensures ∙ e)),
-    )
 
 pub returns : goal.returns
 returns c =
     let a = c.args in
-    sym (c.loop-k.invariant.3 ∙ elem_end a.x a.s.now c.loop-k.a a.n c.loop-k.k (omega arith))
+    let r = any_from_yields_List (λ k. eqb (get32 a.s.now (a.i + 4 * k)) a.x) _ _ c.any.result c.any.ensures.ran (YieldsList-from_range 0 a.n a.n refl (omega arith)) (λ x b q k. search (rules, tests)) in
+    r ∙ elem-range a.x a.s.now a.i a.n

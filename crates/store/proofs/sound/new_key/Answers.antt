@@ -1,35 +1,17 @@
-use mathlib.Core.Path.{◌≡◌, refl, sym, ap, ◌∙◌}
+use Rattle.std.proofs.Common.{rules}
+use mathlib.Core.Path.{refl, ap, ◌∙◌}
 use mathlib.Core.Bool.{not}
+use Rattle.std.proofs.lemmas.Iterator.{YieldsList-from_range}
+use Rattle.std.proofs.lemmas.Iterator.Search.{any_from_yields_List}
 use native.Mathlib.Omega.{arith}
-use Rattle.octets.specs.Bytes.{all_below}
-use Rattle.octets.proofs.BoolLaws.{all_below_more, all_below_fails}
-use Rattle.store.specs.Store.{new_key}
-use Rattle.store.proofs.sound.new_key.Invariants.{other}
+use borrow.Author.Tests.{tests}
+use Rattle.store.specs.Store.{same_key, new_key}
+use Rattle.store.proofs.ChainLaws.{any-range}
 use Rattle.store.proofs.sound.new_key.Goals as goal
-
-pub loop-j-init : goal.loop-j-init
-unfolding all_below
-loop-j-init c = (omega arith, omega arith, omega arith, refl)
-
-pub returns-then-same_key : goal.returns-then-same_key
-unfolding new_key
-returns-then-same_key c =
-    let s = c.args.s.now in
-    let i = c.args.i in
-    sym (all_below_fails i c.loop-j.j (other s i) (omega arith) (ap not (sym c.same_key.ensures ∙ c.if-same_key.true)))
-
-pub loop-j-preserved : goal.loop-j-preserved
-loop-j-preserved c =
-    let s = c.args.s.now in
-    let i = c.args.i in (
-      omega arith,
-      omega arith,
-      omega arith,
-      all_below_more c.loop-j.j (other s i) c.loop-j.invariant.3 (ap not (sym c.same_key.ensures ∙ c.if-same_key.false)),
-    )
 
 pub returns : goal.returns
 unfolding new_key
 returns c =
-    let e : c.loop-j.j ≡ c.args.i = omega arith in
-    sym (rw e at c.loop-j.invariant.3)
+    let a = c.args in
+    let r = any_from_yields_List (same_key a.s.now a.i) _ _ c.any.result c.any.ensures.ran (YieldsList-from_range 0 a.i a.i refl (omega arith)) (λ x b q k. search (rules, tests)) in
+    ap not r ∙ any-range a.i (same_key a.s.now a.i)

@@ -1,15 +1,10 @@
 -- `store::sound::sums_ok` meets its contract. The loop's invariant: the sums passed hold, and `sum` is the sum so far.
 use mathlib.Core.Path.{◌≡◌}
 use mathlib.Core.Bool.{true}
-use lib.ListN.{length}
-use Prim.Native.Nat.{◌-◌, ◌*◌, ◌≤◌, ◌<◌}
+use Prim.Native.Nat.{◌*◌, ◌≤◌}
 use Rattle.octets.specs.Bytes.{all_below}
-use Rattle.store.specs.Layout.{record_at}
-use Rattle.store.specs.Store.{key_count, peer_count, sum_before, sum_at}
+use Rattle.store.specs.Store.{sum_before, sum_at}
 use Rattle.store.proofs.sound.sums_ok.Given as goal
 
 abbrev pub invariant-loop-i : goal.invariant-loop-i
-invariant-loop-i l = (l.i ≤ l.n) × (l.n ≡ key_count l.s) × (l.m ≡ peer_count l.s) × (l.n < 65536) × (record_at l.n ≤ length l.s) × (l.sum ≡ sum_before l.s l.i) × (l.sum ≤ 65535 * l.i) × (all_below l.i (sum_at l.s) ≡ true)
-
-abbrev pub decreases-loop-i : goal.decreases-loop-i
-decreases-loop-i l = l.n - l.i
+invariant-loop-i l = (l.sum ≡ sum_before l.s l.i) × (l.sum ≤ 65535 * l.i) × (all_below l.i (sum_at l.s) ≡ true)

@@ -8,35 +8,17 @@ use Rattle.store.specs.Store.{key_count, new_key, unique_ok}
 use Rattle.store.specs.Slots.{slot_of, fingerprint_of, suspect, marked_by}
 use Rattle.store.proofs.SlotLaws.{marked-none, marked_more, not-suspect-new}
 use Rattle.store.proofs.sound.unique_ok.Goals as goal
-use Rattle.store.proofs.sound.unique_ok.Goals.{then-is_suspect+else-not-new_key, else-is_suspect}
+use Rattle.store.proofs.sound.unique_ok.Goals.{else-is_suspect-via-then-is_suspect+else-not-new_key, else-is_suspect-via-else-is_suspect}
 
 pub loop-i-init : goal.loop-i-init
 unfolding all_below
-loop-i-init c = (omega arith, c.number_at-n.ensures.0, c.number_at-n.ensures.1, omega arith, refl, refl, marked-none c.args.s.now _)
-
-pub slot_of-k-requires : goal.slot_of-k-requires
-slot_of-k-requires c = tt
-
-pub fingerprint_of-fingerprint-requires : goal.fingerprint_of-fingerprint-requires
-fingerprint_of-fingerprint-requires c = tt
-
-pub bounds-marks-k : goal.bounds-marks-k
-bounds-marks-k c = c.slot_of-k.ensures.1
-
-pub is_suspect-requires : goal.is_suspect-requires
-is_suspect-requires c = tt
+loop-i-init c = (refl, refl, marked-none c.args.s.now _)
 
 pub returns-then-not-new_key : goal.returns-then-not-new_key
 unfolding unique_ok
 returns-then-not-new_key c =
     let s = c.args.s.now in
     sym (all_below_fails (key_count s) c.loop-i.i (new_key s) (omega arith) (sym c.new_key.ensures ∙ c.if-not-new_key.true))
-
-pub marked-requires : goal.marked-requires
-marked-requires c = tt
-
-pub bounds-marks-k-in-loop-i : goal.bounds-marks-k-in-loop-i
-bounds-marks-k-in-loop-i c = c.slot_of-k.ensures.1
 
 pub loop-i-preserved : goal.loop-i-preserved
 loop-i-preserved c =
@@ -45,19 +27,15 @@ loop-i-preserved c =
     let marks = c.loop-i.marks in
     let k = c.slot_of-k.result in
     let passed : c.is_suspect.result ≡ false → new_key s i ≡ true =
-    λ f. not-suspect-new s i k marks c.loop-i.invariant.6 (c.slot_of-k.ensures.0 ∙ ap slot_of c.hash_at-hash.ensures) (ap (suspect (get_or marks k 0)) (sym (c.fingerprint_of-fingerprint.ensures ∙ ap fingerprint_of c.hash_at-hash.ensures)) ∙ sym c.is_suspect.ensures ∙ f) in
-    let is-new : new_key s i ≡ true = elim c.if-is_suspect.branch [ then-is_suspect+else-not-new_key w ↦ sym w.new_key.ensures ∙ w.if-not-new_key.false | else-is_suspect w ↦ passed w.if-is_suspect.false ] in (
-      omega arith,
-      c.loop-i.invariant.1,
-      c.loop-i.invariant.2,
-      c.loop-i.invariant.3,
-      all_below_more i (new_key s) c.loop-i.invariant.4 is-new,
-      length-set marks k c.marked.result ∙ c.loop-i.invariant.5,
-      marked_more s i k c.marked.result marks c.loop-i.invariant.6 (c.slot_of-k.ensures.0 ∙ ap slot_of c.hash_at-hash.ensures) (omega (arith, c.slot_of-k.ensures.1, c.loop-i.invariant.5)) (c.marked.ensures ∙ ap (marked_by (get_or marks k 0)) (c.fingerprint_of-fingerprint.ensures ∙ ap fingerprint_of c.hash_at-hash.ensures)),
+    λ f. not-suspect-new s i k marks c.loop-i.invariant.2 (c.slot_of-k.ensures.0 ∙ ap slot_of c.hash_at-hash.ensures) (ap (suspect (get_or marks k 0)) (sym (c.fingerprint_of-fingerprint.ensures ∙ ap fingerprint_of c.hash_at-hash.ensures)) ∙ sym c.is_suspect.ensures ∙ f) in
+    let is-new : new_key s i ≡ true = elim c.else-is_suspect.branch [ else-is_suspect-via-then-is_suspect+else-not-new_key w ↦ sym w.new_key.ensures ∙ w.if-not-new_key.false | else-is_suspect-via-else-is_suspect w ↦ passed w.if-is_suspect.false ] in (
+      all_below_more i (new_key s) c.loop-i.invariant.0 is-new,
+      length-set marks k c.marked.result ∙ c.loop-i.invariant.1,
+      marked_more s i k c.marked.result marks c.loop-i.invariant.2 (c.slot_of-k.ensures.0 ∙ ap slot_of c.hash_at-hash.ensures) (omega (arith, c.slot_of-k.ensures.1, c.loop-i.invariant.1)) (c.marked.ensures ∙ ap (marked_by (get_or marks k 0)) (c.fingerprint_of-fingerprint.ensures ∙ ap fingerprint_of c.hash_at-hash.ensures)),
     )
 
 pub returns : goal.returns
 unfolding unique_ok
 returns c =
     let e : c.loop-i.i ≡ key_count c.args.s.now = omega arith in
-    sym (rw e at c.loop-i.invariant.4)
+    sym (rw e at c.loop-i.invariant.0)

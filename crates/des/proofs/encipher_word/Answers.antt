@@ -1,5 +1,0 @@
--- `des::encipher_word` meets its contract.
-use Rattle.des.proofs.encipher_word.Goals as goal
-
-pub returns : goal.returns
-returns c = c.crypt.ensures

@@ -1,9 +1,0 @@
--- `lines::orders::or_else` meets its contract.
-use mathlib.Core.Path.{sym, ◌∙◌}
-use Rattle.lines.proofs.orders.or_else.Goals as goal
-
-pub returns-then-same : goal.returns-then-same
-returns-then-same c = simp (sym c.same.ensures ∙ c.if-same.true)
-
-pub returns : goal.returns
-returns c = simp (sym c.same.ensures ∙ c.if-same.false)

@@ -1,9 +1,0 @@
--- `self_test::keys::same_but_parity` meets its contract.
-use Prim.Native.Nat.{◌≤◌, ◌-◌}
-use Rattle.self_test.proofs.keys.same_but_parity.Given as goal
-
-abbrev pub invariant-loop-i : goal.invariant-loop-i
-invariant-loop-i l = l.i ≤ 24
-
-abbrev pub decreases-loop-i : goal.decreases-loop-i
-decreases-loop-i l = 24 - l.i

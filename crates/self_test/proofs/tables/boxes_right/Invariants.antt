@@ -1,9 +1,0 @@
--- `self_test::tables::boxes_right` meets its contract.
-use Prim.Native.Nat.{◌≤◌, ◌-◌}
-use Rattle.self_test.proofs.tables.boxes_right.Given as goal
-
-abbrev pub invariant-loop-k : goal.invariant-loop-k
-invariant-loop-k l = l.k ≤ 8
-
-abbrev pub decreases-loop-k : goal.decreases-loop-k
-decreases-loop-k l = 8 - l.k

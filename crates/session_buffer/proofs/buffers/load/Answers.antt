@@ -1,5 +1,0 @@
--- `session_buffer::buffers::load` meets its contract.
-use Rattle.session_buffer.proofs.buffers.load.Goals as goal
-
-pub returns : goal.returns
-returns c = cc
