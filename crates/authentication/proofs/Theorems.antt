@@ -172,6 +172,7 @@ odd-parity =
 pub one_answer : OneAnswer
 one_answer =
     record {
+      of_number = λ a b e. answer-one (λ made. 0) (λ m n p. refl) a b e;
       of_keys = λ kmac ra rb a b p q. same-keys a b (session_keys kmac ra rb) (session_keys kmac ra rb) p.made q.made refl (p.said ∙ sym q.said);
       of_build = λ a b e. answer-one (λ n. n) (λ m n p. p) a b e;
       of_check = λ a b e. answer-one (λ n. n) (λ m n p. p) a b e;

@@ -1,13 +1,13 @@
 -- What is claimed of the MAC, units and session keys beside the contracts. proofs/Theorems.antt has a proof of each claim.
 -- Assumes nothing.
-use Rattle.std.specs.Prelude.{◌≡◌, Bool, true, List, map, ℕ, ◌+◌, ◌/◌, ◌%◌, ◌≤◌, ◌<◌, length, get_or, take, drop, Result}
+use Rattle.std.specs.Prelude.{◌≡◌, Bool, true, List, map, ℕ, ◌+◌, ◌/◌, ◌%◌, ◌≤◌, ◌<◌, length, get_or, take, drop, ⊤, Result}
 use Rattle.std.specs.Int.Count.{ones}
 use Rattle.octets.specs.Bytes.{be16, part, all_zero}
 use Rattle.des.specs.Claims.{SameButParity}
 use Rattle.refusal.specs.House.{house, gives}
 use Rattle.refusal.specs.declared.Refusal.{Refusal}
 use Rattle.authentication.specs.Mac.{mac_string, mac}
-use Rattle.authentication.specs.Keys.{odd, session_keys, Derives}
+use Rattle.authentication.specs.Keys.{odd, session_keys, Derives, derived_as}
 use Rattle.authentication.specs.Unit.{unit_of, built, buffer, built_as, Builds, checked, checked_as, data_of}
 
 -- ---- the string of the MAC (SUBSET-037-2, 6.2.2.3 and 6.2.3.2.1.5 to .7)
@@ -88,8 +88,10 @@ pub record OddParity : Type 0 where
 
 -- ---- answers
 
--- the paper's numbers are those of one answer only: a contract that fixes them fixes the answer
+-- the paper's numbers are those of one answer only: a contract that fixes them fixes the answer; of session keys the number says all but
+-- the keys (of_number), and with the keys that are due the answer is one (of_keys)
 pub record OneAnswer : Type 0 where
+  pub of_number : (a b : Result ⊤ Refusal) → derived_as a ≡ derived_as b → a ≡ b
   pub of_keys : (kmac ra rb : List ℕ) (a b : Result (List ℕ) Refusal) → Derives kmac ra rb a → Derives kmac ra rb b → a ≡ b
   pub of_build : (a b : Result ℕ Refusal) → built_as a ≡ built_as b → a ≡ b
   pub of_check : (a b : Result ℕ Refusal) → checked_as a ≡ checked_as b → a ≡ b

@@ -90,6 +90,17 @@ module _ (L : Limits) (s : List ℕ) (t n : ℕ) where
 -- ---- the counts of a store
 
 module _ (L : Limits) (s : List ℕ) (t : ℕ) where
+  pub counts-unsound : sound L s ≡ false → None ≡ counts_in (Some L) s t
+  unfolding counts_in
+  counts-unsound h = rw h
+
+  pub counts-sound : sound L s ≡ true → (c : Classes) (n m : ℕ) → c ≡ classes_of t (entries L s) → n ≡ key_count s → m ≡ peer_count s
+      → Some (record { held = n; classes = c; peers = m }) ≡ counts_in (Some L) s t
+  unfolding counts_in tally_of
+  counts-sound h c n m p q r =
+      let w : Sound L s = sound_says L s h in
+      rw (h, entries-length L s, peers-length L s w) cc
+
   pub counts_of_sound : edition_of (length s) ≡ Some L → sound L s ≡ true → (c : Classes) (n m : ℕ) → c ≡ classes_of t (entries L s) → n ≡ key_count s → m ≡ peer_count s
       → Some (record { held = n; classes = c; peers = m }) ≡ counts_of s t
   unfolding counts_of counts_in tally_of

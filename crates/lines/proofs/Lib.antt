@@ -1,4 +1,5 @@
 pub mod DigitLaws
 pub mod HexLaws
 pub mod WordLaws
+pub mod OrderLaws
 pub mod Theorems

@@ -1,4 +1,5 @@
 pub mod TestLaws
+pub mod HeaderLaws
 pub mod SessionLaws
 pub mod OutcomeLaws
 pub mod RuleLaws

@@ -1,26 +1,29 @@
 -- What a message leaves, step by step from the work of a command to the call.
 -- Assumes nothing.
-use Rattle.std.proofs.Common.{◌≡◌, ℕ, ◌+◌, ◌≤◌, Bool, true, not, List, [], ◌∷◌, ◌++◌, length, sym, refl, ap, ◌∙◌, subst, ap₂, arith, le-leb, Result, Ok, Err}
+use Rattle.std.proofs.Common.{◌≡◌, ℕ, ◌+◌, ◌≤◌, ◌<◌, Bool, true, false, not, List, [], ◌∷◌, ◌++◌, length, sym, refl, ap, ◌∙◌, subst, ap₂, arith, le-leb, Result, Ok, Err, Some}
+use Rattle.std.proofs.lemmas.Bool.{lt-leb}
 use Rattle.octets.specs.Bytes.{splice}
 use Rattle.octets.proofs.SpliceLaws.{splice-head}
 use Rattle.refusal.specs.declared.Refusal.{Refusal}
 use Rattle.store.specs.declared.Limits.{Limits}
-use Rattle.store.specs.Store.{encode, entries}
+use Rattle.store.specs.Store.{encode, entries, sound}
 use Rattle.store.specs.Request.{Work, work}
 use Rattle.command.specs.Works.{Works}
 use Rattle.command.proofs.WorkLaws.{results-length}
 use Rattle.message.specs.declared.Command.{Command}
-use Rattle.message.specs.declared.Task.TheVariants.{Requests}
+use Rattle.message.specs.declared.Task.{Task}
+use Rattle.message.specs.declared.Task.TheVariants.{Requests, DeleteAll, EndOfUpdate}
+use Rattle.message.specs.declared.Kind.TheVariants.{Asks}
 use Rattle.message.specs.Header.{transaction, kind}
-use Rattle.message.specs.Body.{requests, requests_from, request_number}
+use Rattle.message.specs.Body.{body_ok, requests, requests_from, request_number}
 use Rattle.message.specs.Written.{reply_head}
 use Rattle.session.specs.declared.Session.{Session}
 use Rattle.session.specs.declared.Received.{Received}
 use Rattle.session.specs.declared.Received.TheVariants.{Reply}
 use Rattle.session.specs.declared.response.Response.{Response}
 use Rattle.session.specs.Sessions.{Closed, Open, remembering, replied}
-use Rattle.session.specs.Rules.{Outcome, respond, test, header_tests, transaction_tests, repeats, Verdict, first_failed, all_pass, type_test, verdict, heard, obey, judged, received_as, in_state, receive_in, receive, reply, Does}
-use Rattle.session.specs.Parts.{response_number, Faults, Reports}
+use Rattle.session.specs.Rules.{Outcome, refuse, respond, test, header_tests, transaction_tests, repeats, Verdict, first_failed, all_pass, type_test, verdict, heard, obey, judged, received_as, in_state, receive_in, receive, reply, Does}
+use Rattle.session.specs.Parts.{response_number, Faults, Reports, work_if_sound}
 use Rattle.session.specs.Claims.{Tested}
 use Rattle.session.proofs.TestLaws.{tests_pass, header_fails, heard-old, heard-new}
 
@@ -58,6 +61,37 @@ module _ (L : Limits) (k : Command) (e : Session) (m s out : List ℕ) where
       let ew : work L e.own (requests_from k m 22 n) es ≡ rs = ap (λ (x : ℕ). work L e.own (requests_from k m 22 x) es) en in
       let d = r.by after out (work L e.own (requests_from k m 22 n) es).results (results-length L e.own k m n 22 es) ho w.output_is in
       does_as (ap₂ (λ (x : Work) (t : List ℕ). respond 0 x.results Open e m t out) ew (w.store_is ∙ ap (λ (x : Work). encode L x.left) ew)) d
+
+-- ---- the tests behind the type
+
+module _ (L : Limits) (e : Session) (m s out : List ℕ) where
+  pub body_wrong : (task : Task) → body_ok task m ≡ false → respond 11 [] Closed e m s out ≡ judged (type_test (Asks task) L m s) L e m s out
+  unfolding first_failed
+  body_wrong task h = simp h
+
+  pub list_judged : (k : Command) → body_ok (Requests k) m ≡ true → work_if_sound L k e m s out ≡ judged (type_test (Asks (Requests k)) L m s) L e m s out
+  unfolding first_failed
+  list_judged k h = simp h
+
+  pub all-judged : body_ok DeleteAll m ≡ true → obey L DeleteAll e m s out ≡ judged (type_test (Asks DeleteAll) L m s) L e m s out
+  unfolding first_failed
+  all-judged h = simp h
+
+  pub end-judged : body_ok EndOfUpdate m ≡ true → obey L EndOfUpdate e m s out ≡ judged (type_test (Asks EndOfUpdate) L m s) L e m s out
+  unfolding first_failed
+  end-judged h = simp h
+
+  pub work-unsound : (k : Command) → sound L s ≡ false → respond 6 [] Open e m s out ≡ work_if_sound L k e m s out
+  unfolding first_failed
+  work-unsound k h = simp h
+
+  pub work-sound : (k : Command) → sound L s ≡ true → obey L (Requests k) e m s out ≡ work_if_sound L k e m s out
+  unfolding first_failed
+  work-sound k h = simp h
+
+  pub in_waiting_short : 1032 ≤ length out → e.state ≡ 1 → length m < 20 → refuse 4 e s out ≡ receive_in (Some L) e m s out
+  unfolding receive_in in_state
+  in_waiting_short h st l = simp (le-leb 1032 (length out) h, st, lt-leb 20 (length m) l)
 
 -- ---- the tests before the type
 

@@ -1,4 +1,4 @@
-// Connection set-up (SUBSET-037-2, 6.2.6): one connection, as caller or called, on a KMAC of the store. Each call that hands back a step is an event of Table 20, with a match on the state: an arm is a square, or all squares in which nothing is done; `unit` matches on the kind, and its squares ask for the state.
+// Connection set-up (SUBSET-037-2, 6.2.6): one connection, as caller or called, on a KMAC of the store. Each call that hands back a step is an event of Table 20, with a match on the state of which each arm is a square; `unit` matches on the kind, and its squares ask for the state.
 #![tactic(auto)]
 
 ghost use Rattle.std.specs.Prelude.{◌≡◌};
@@ -40,7 +40,11 @@ pub fn request(
     }
     match State::from(c.state) {
         State::IDLE => requested(c, acceptable, own, peer, t, rb, store, out),
-        _ => unmoved(c),
+        State::WFTC => unmoved(c),
+        State::WFAR => unmoved(c),
+        State::DATA => unmoved(c),
+        State::WFAU3 => unmoved(c),
+        State::WFRESP => unmoved(c),
     }
 }
 
@@ -52,8 +56,12 @@ pub fn respond(c: Connection, out: &mut [u8]) -> Step
         return refuse(c, Refusal::OutputLength);
     }
     match State::from(c.state) {
+        State::IDLE => unmoved(c),
+        State::WFTC => unmoved(c),
+        State::WFAR => unmoved(c),
+        State::DATA => unmoved(c),
+        State::WFAU3 => unmoved(c),
         State::WFRESP => send_ar(c, out),
-        _ => unmoved(c),
     }
 }
 
@@ -68,8 +76,12 @@ pub fn send(c: Connection, user: &[u8], out: &mut [u8]) -> Step
         return refuse(c, Refusal::DataLength);
     }
     match State::from(c.state) {
+        State::IDLE => unmoved(c),
+        State::WFTC => unmoved(c),
+        State::WFAR => unmoved(c),
         State::DATA => send_dt(c, user, out),
-        _ => unmoved(c),
+        State::WFAU3 => unmoved(c),
+        State::WFRESP => unmoved(c),
     }
 }
 
@@ -82,9 +94,12 @@ pub fn release(c: Connection, reason: u8, sub: u8, out: &mut [u8]) -> Step
     }
     let why = Code { reason, sub };
     match State::from(c.state) {
-        State::IDLE | State::WFAU3 => unmoved(c),
+        State::IDLE => unmoved(c),
         State::WFTC => ended(ToUser::Nothing, ToTransport::TDiscReq),
-        State::WFAR | State::DATA | State::WFRESP => ended_by_di(c, ToUser::Nothing, why, out),
+        State::WFAR => ended_by_di(c, ToUser::Nothing, why, out),
+        State::DATA => ended_by_di(c, ToUser::Nothing, why, out),
+        State::WFAU3 => unmoved(c),
+        State::WFRESP => ended_by_di(c, ToUser::Nothing, why, out),
     }
 }
 
@@ -108,7 +123,11 @@ pub fn indicated(
     }
     match State::from(c.state) {
         State::IDLE => invited(c, acceptable, own, t, ra, unit, store, out),
-        _ => unmoved(c),
+        State::WFTC => unmoved(c),
+        State::WFAR => unmoved(c),
+        State::DATA => unmoved(c),
+        State::WFAU3 => unmoved(c),
+        State::WFRESP => unmoved(c),
     }
 }
 
@@ -120,8 +139,12 @@ pub fn confirmed(c: Connection, unit: &[u8], out: &mut [u8]) -> Step
         return refuse(c, Refusal::OutputLength);
     }
     match State::from(c.state) {
+        State::IDLE => unmoved(c),
         State::WFTC => answered(c, unit, out),
-        _ => unmoved(c),
+        State::WFAR => unmoved(c),
+        State::DATA => unmoved(c),
+        State::WFAU3 => unmoved(c),
+        State::WFRESP => unmoved(c),
     }
 }
 
@@ -134,8 +157,11 @@ pub fn disconnected(c: Connection, reason: u8, unit: &[u8], out: &mut [u8]) -> S
     }
     match State::from(c.state) {
         State::IDLE => unmoved(c),
+        State::WFTC => lost(reason, unit),
+        State::WFAR => lost(reason, unit),
+        State::DATA => lost(reason, unit),
         State::WFAU3 => ended(ToUser::Nothing, ToTransport::Quiet),
-        State::WFTC | State::WFAR | State::DATA | State::WFRESP => lost(reason, unit),
+        State::WFRESP => lost(reason, unit),
     }
 }
 
@@ -180,9 +206,12 @@ pub fn time_out(c: Connection, out: &mut [u8]) -> Step
         sub: NO_AR,
     };
     match State::from(c.state) {
+        State::IDLE => unmoved(c),
         State::WFTC => ended(ToUser::DisconnectIndication(why), ToTransport::TDiscReq),
         State::WFAR => broken(c, why, out),
-        State::IDLE | State::DATA | State::WFAU3 | State::WFRESP => unmoved(c),
+        State::DATA => unmoved(c),
+        State::WFAU3 => unmoved(c),
+        State::WFRESP => unmoved(c),
     }
 }
 

@@ -1,18 +1,21 @@
 -- `setup::time_out` meets its contract.
-use mathlib.Core.Path.{◌≡◌, refl}
-use mathlib.Core.Logic.{inl, inr}
+use mathlib.Core.Path.{refl}
 use Rattle.units.specs.Units.{di_unit}
-use Rattle.table.specs.declared.State.{State}
 use Rattle.table.specs.declared.State.TheVariants.{IDLE, WFTC, WFAR, DATA, WFAU3, WFRESP}
 use Rattle.table.specs.declared.ToTransport.TheVariants.{TDiscReq, TDiscReqDi}
-use Rattle.table.specs.Table.{TimeOut, ok, SaDiscInd, a19, to, square_of, no_action, square, row_in, table}
+use Rattle.table.specs.Table.{SaDiscInd, a19, to, square_of, square, row_in, table}
 use Rattle.table.specs.Steps.{time_out, asked, carried}
-use Rattle.table.proofs.CallLaws.{nothing_in, quiet_in, sent_in}
 use Rattle.table.proofs.StepLaws.{does_short}
+use Rattle.table.proofs.CallLaws.{nothing_in, quiet_in, sent_in}
 use Rattle.setup.proofs.time_out.Goals as goal
 
 pub returns-then-out-lt-OUTPUT_LEAST : goal.returns-then-out-lt-OUTPUT_LEAST
 returns-then-out-lt-OUTPUT_LEAST c = does_short _ _ _ _ _ c.if-out-lt-OUTPUT_LEAST.true c.refuse.ensures.0 c.refuse.ensures.1
+
+pub returns-in-IDLE : goal.returns-in-IDLE
+unfolding asked square row_in table
+returns-in-IDLE c =
+    nothing_in time_out IDLE c.if-out-lt-OUTPUT_LEAST.false refl c.from.ensures c.in-IDLE.is refl c.unmoved.ensures.0 c.unmoved.ensures.1
 
 pub returns-in-WFTC : goal.returns-in-WFTC
 unfolding asked carried square row_in table
@@ -26,11 +29,17 @@ returns-in-WFAR c =
     sent_in time_out WFAR (square_of SaDiscInd TDiscReqDi a19 (to IDLE)) _ _ c.if-out-lt-OUTPUT_LEAST.false refl c.from.ensures c.in-WFAR.is refl refl
     c.broken.ensures.0 c.broken.ensures.1 c.broken.ensures.2
 
-pub returns-in-IDLE : goal.returns-in-IDLE
+pub returns-in-DATA : goal.returns-in-DATA
 unfolding asked square row_in table
-returns-in-IDLE c =
-    let blank = λ (s : State) (e : c.from.result ≡ s) (q : square TimeOut s ok ≡ no_action). nothing_in time_out s c.if-out-lt-OUTPUT_LEAST.false refl c.from.ensures e q c.unmoved.ensures.0 c.unmoved.ensures.1 in
-    elim c.in-IDLE.is [
-      | inl e ↦ blank IDLE e refl
-      | inr f ↦ elim f [ inl e ↦ blank DATA e refl | inr g ↦ elim g [ inl e ↦ blank WFAU3 e refl | inr e ↦ blank WFRESP e refl ] ]
-    ]
+returns-in-DATA c =
+    nothing_in time_out DATA c.if-out-lt-OUTPUT_LEAST.false refl c.from.ensures c.in-DATA.is refl c.unmoved-in-DATA.ensures.0 c.unmoved-in-DATA.ensures.1
+
+pub returns-in-WFAU3 : goal.returns-in-WFAU3
+unfolding asked square row_in table
+returns-in-WFAU3 c =
+    nothing_in time_out WFAU3 c.if-out-lt-OUTPUT_LEAST.false refl c.from.ensures c.in-WFAU3.is refl c.unmoved-in-WFAU3.ensures.0 c.unmoved-in-WFAU3.ensures.1
+
+pub returns-in-WFRESP : goal.returns-in-WFRESP
+unfolding asked square row_in table
+returns-in-WFRESP c =
+    nothing_in time_out WFRESP c.if-out-lt-OUTPUT_LEAST.false refl c.from.ensures c.in-WFRESP.is refl c.unmoved-in-WFRESP.ensures.0 c.unmoved-in-WFRESP.ensures.1
