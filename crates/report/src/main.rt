@@ -1,13 +1,11 @@
 // The depot report: reads a moment and names of files from standard input, and writes a line of counts for each store and one of sums.
 #![tactic(auto)]
 
-ghost use Rattle.std.specs.Prelude.{◌≡◌, ◌+◌, ◌≤◌, [], length, OnOk, IfOk, IfSome};
-ghost use Rattle.arrayvec.specs.ArrayVec.{array_vec_len};
+ghost use Rattle.std.specs.Prelude.{◌≡◌, ◌+◌, ◌≤◌, length, IfOk, IfSome};
 ghost use Rattle.sheet.specs.Row.{longest};
 
-use arrayvec::ArrayVec;
 use sheet::input::{LINE, take_line};
-use sheet::{ROW, Report, Written};
+use sheet::{ROW, Report, Written, put_last, put_line};
 use std::io::{Error, Read};
 use std::rt::Files;
 use std::{fmt, fs, str};
@@ -39,10 +37,16 @@ impl fmt::Display for Failure {
 #[derive(Drop)]
 struct Progress {
     report: Report,
-    // What is held of a line that has not ended, the file that a line names, and the output that waits to be written.
-    line: ArrayVec<u8, LINE>,
+    // What is held of a line that has not ended.
+    line: [u8; LINE],
+    filled: usize,
+    ghost held: { filled ≤ length line },
+    // The file that a line names.
     file: [u8; FILE],
-    waiting: ArrayVec<u8, OUTPUT>,
+    // The output, and how much of it waits to be written.
+    out: [u8; OUTPUT],
+    waiting: usize,
+    ghost waits: { waiting ≤ length out },
 }
 
 // Reads what there is to the front of a buffer, and answers how many bytes: as many as fit where there are more.
@@ -71,54 +75,55 @@ fn load(files: &impl Files, name: &[u8], file: &mut [u8]) -> Option<usize>
 }
 
 impl Progress {
-    // Writes out what waits.
+    // Writes out what waits. Where that fails, none of it waits any more.
     fn flush(&mut self, rt: &impl Print) -> Result<(), Failure>
-        ensures written { OnOk result (self.new.waiting.items ≡ []) }
-        ensures kept { self.new.line ≡ self.old.line }
+        ensures written { self.new.waiting ≡ 0 }
+        ensures kept { (self.new.line ≡ self.old.line) × (self.new.filled ≡ self.old.filled) }
     {
-        rt.write_all(self.waiting.as_slice())
-            .map_err(Failure::Output)?;
-        self.waiting.clear();
-        Ok(())
+        let written = rt.write_all(&self.out[..self.waiting]);
+        self.waiting = 0;
+        written.map_err(Failure::Output)
     }
 
     // Room for a line of output.
     fn make_room(&mut self, rt: &impl Print) -> Result<(), Failure>
-        ensures room { OnOk result (array_vec_len self.new.waiting + longest ≤ OUTPUT) }
-        ensures kept { self.new.line ≡ self.old.line }
+        ensures room { self.new.waiting + longest ≤ OUTPUT }
+        ensures kept { (self.new.line ≡ self.old.line) × (self.new.filled ≡ self.old.filled) }
     {
-        if self.waiting.remaining_capacity() < ROW {
+        if OUTPUT - self.waiting < ROW {
             self.flush(rt)?;
         }
         Ok(())
     }
 
     // A line of the input has come to its end. There is room before its file is opened, which may wait.
-    fn end_line(&mut self, rt: &(impl Files + Print)) -> Result<(), Failure>
-        ensures { OnOk result (self.new.line.items ≡ []) }
+    fn end_line(&mut self, files: &impl Files)
+        requires { self.old.waiting + longest ≤ OUTPUT }
+        ensures { self.new.filled ≡ 0 }
     {
-        self.make_room(rt)?;
-        let line = self.line.as_slice();
+        let line = &self.line[..self.filled];
         let n = if self.report.asks_file(line) {
-            load(rt, line, &mut self.file).unwrap_or(0)
+            load(files, line, &mut self.file).unwrap_or(0)
         } else {
             0
         };
-        let Written { text, report } = self.report.line_of(line, &self.file[..n]);
-        self.waiting.try_extend_from_slice(text.as_slice()).unwrap();
+        let room = &mut self.out[self.waiting..];
+        let Written { count, report } = put_line(room, self.report, line, &self.file[..n]);
         self.report = report;
-        self.line.clear();
-        Ok(())
+        self.waiting += count;
+        self.filled = 0;
     }
 
     // Works the lines that end in a chunk of the input.
     fn feed(&mut self, rt: &(impl Files + Print), chunk: &[u8]) -> Result<(), Failure> {
-        let mut rest = chunk;
-        while !rest.is_empty() {
-            let cut = take_line(&mut self.line, rest);
-            rest = &rest[cut.taken..];
+        let mut at = 0;
+        while at < chunk.len() {
+            let cut = take_line(&mut self.line, self.filled, chunk, at);
+            at = cut.at;
+            self.filled = cut.filled;
             if cut.ended {
-                self.end_line(rt)?;
+                self.make_room(rt)?;
+                self.end_line(rt);
             }
         }
         Ok(())
@@ -142,13 +147,12 @@ impl Progress {
     // The whole report. A last line needs no line end.
     fn run(&mut self, rt: &(impl Files + Print), input: &mut impl Read) -> Result<(), Failure> {
         self.read(rt, input)?;
-        if !self.line.is_empty() {
-            self.end_line(rt)?;
+        if self.filled > 0 {
+            self.make_room(rt)?;
+            self.end_line(rt);
         }
         self.make_room(rt)?;
-        self.waiting
-            .try_extend_from_slice(self.report.last_of().as_slice())
-            .unwrap();
+        self.waiting += put_last(&mut self.out[self.waiting..], self.report);
         self.flush(rt)
     }
 }
@@ -156,9 +160,11 @@ impl Progress {
 fn main(rt: HostRuntime) {
     let mut progress = Progress {
         report: Report::First,
-        line: ArrayVec::new(),
+        line: [0u8; LINE],
+        filled: 0,
         file: [0u8; FILE],
-        waiting: ArrayVec::new(),
+        out: [0u8; OUTPUT],
+        waiting: 0,
     };
     if let Err(failure) = progress.run(&rt, &mut rt.stdin()) {
         let _ = eprintln!(rt; "report: {failure}");

@@ -6,11 +6,13 @@ use mathlib.Core.List.{List, ◌++◌}
 use Rattle.std.proofs.Common.{Some, None}
 use Prim.Native.Nat.{ℕ, ◌+◌, ◌-◌, ◌≤◌, ◌<◌, min}
 use native.Mathlib.Omega.{arith}
-use native.Mathlib.Nat.{min-le_left}
-use lib.ListN.{length, take, drop, drop_of_length-le}
-use lib.Seq.{length-take-le, take-append-add, take-take}
+use native.Mathlib.Nat.{min-le_left, min-le_right}
+use lib.ListN.{length, take, drop, drop_of_length-le, length-drop}
+use lib.Seq.{length-take-le, take-append-add, take-take, drop-drop}
 use lib.Dec.{eqb, leb}
 use borrow.Author.Tests.{eq-eqb, ne_eqb, le-leb, lt-leb, leb-true}
+use Rattle.octets.specs.Bytes.{part, splice}
+use Rattle.octets.proofs.SpliceLaws.{splice-take}
 use Rattle.octets.proofs.BoolLaws.{and_left, and_right}
 use Rattle.lines.specs.Digits.{are_digits, numeral}
 use Rattle.lines.specs.Words.{before, first_from, First}
@@ -54,47 +56,56 @@ name_short s e =
 
 -- ---- lines
 
--- k bytes of a chunk follow the line that is held: those up to e, as many as there is room for
-kept_line : (room : ℕ) (line chunk : List ℕ) (e k : ℕ) → length line ≤ room → e ≤ length chunk → k ≡ min e (room - length line)
-    → line ++ take k chunk ≡ take room (line ++ take e chunk)
-kept_line room line chunk e k h l q =
-    let u : List ℕ = take e chunk in
-    let m : ℕ = room - length line in
-    let kb : k ≤ e = omega (arith, min-le_left e m) in
-    let r : room ≡ length line + m = omega arith in
-    let ku : k ≡ min (length u) m = q ∙ ap (λ (x : ℕ). min x m) (sym (length-take-le e chunk l)) in
-    sym (ap (λ (x : ℕ). take x (line ++ u)) r
-    ∙ take-append-add line u m
-    ∙ ap (λ (x : List ℕ). line ++ x) (sym (take-least u k m ku) ∙ take-take k e chunk kb))
-
-module _ (most : ℕ) (line chunk : List ℕ) (e k : ℕ) (line' : List ℕ) (room : length line ≤ most) (first : First LineEnd chunk 0 e) (k-is : k ≡ min e (most - length line))
-    (copied : line' ≡ line ++ take k chunk) where
-  b-is : e ≡ before LineEnd chunk
+module _ (line : List ℕ) (filled : ℕ) (chunk : List ℕ) (at : ℕ) (e k : ℕ) (line' : List ℕ) (room : filled ≤ length line) (first : First LineEnd chunk at e)
+    (k-is : k ≡ min (e - at) (length line - filled)) (copied : line' ≡ splice line filled (part chunk at k)) where
+  b-is : before LineEnd (drop at chunk) ≡ e - at
   unfolding first_from
   b-is = omega (arith, first.is)
 
-  kept_all : line' ≡ take most (line ++ up_to_end chunk)
-  kept_all = copied ∙ kept_line most line chunk e k room first.most k-is ∙ ap (λ (x : ℕ). take most (line ++ take x chunk)) b-is
+  kept_line : take (filled + k) line' ≡ take (length line) (take filled line ++ up_to_end (drop at chunk))
+  unfolding part
+  kept_line =
+      let A : List ℕ = take filled line in
+      let u : List ℕ = take (e - at) (drop at chunk) in
+      let m : ℕ = length line - filled in
+      let lx : length (drop at chunk) ≡ length chunk - at = length-drop at chunk in
+      let l_a : length A ≡ filled = length-take-le filled line room in
+      let lu : length u ≡ e - at = length-take-le (e - at) (drop at chunk) (omega (arith, first.most, first.least)) in
+      let kb : k ≤ e - at = omega (arith, min-le_left (e - at) m) in
+      let lv : length (take k (drop at chunk)) ≡ k = length-take-le k (drop at chunk) (omega (arith, first.most, first.least)) in
+      let q : length line ≡ length A + m = omega arith in
+      let ku : k ≡ min (length u) m = k-is ∙ ap (λ (x : ℕ). min x m) (sym lu) in
+      ap (take (filled + k)) copied
+      ∙ splice-take line filled (take k (drop at chunk)) k lv room
+      ∙ sym (ap (λ (x : ℕ). take (length line) (A ++ take x (drop at chunk))) b-is
+      ∙ ap (λ (x : ℕ). take x (A ++ u)) q
+      ∙ take-append-add A u m
+      ∙ ap (λ (x : List ℕ). A ++ x) (sym (take-least u k m ku) ∙ take-take k (e - at) (drop at chunk) kb))
 
-  pub line_ended : e < length chunk → TakesLine most line chunk line' (record { taken = e + 1; ended = true })
+  pub line_ended : e < length chunk → TakesLine line filled chunk at line' (record { at = e + 1; filled = filled + k; ended = true })
   line_ended h =
-      let l : before LineEnd chunk < length chunk = omega (arith, b-is) in
+      let lx : length (drop at chunk) ≡ length chunk - at = length-drop at chunk in
+      let l : before LineEnd (drop at chunk) < length (drop at chunk) = omega (arith, b-is, first.least) in
+      let n : at + (before LineEnd (drop at chunk) + 1) ≡ e + 1 = omega (arith, b-is, first.least) in
       record {
-        kept = kept_all;
-        ended_is = sym (ap not (lt-leb (length chunk) (before LineEnd chunk) l));
-        rest = ap (λ (x : ℕ). drop (x + 1) chunk) b-is;
-        taken_fits = omega arith;
-        moves = λ _. omega arith;
+        kept = kept_line;
+        ended_is = sym (ap not (lt-leb (length (drop at chunk)) (before LineEnd (drop at chunk)) l));
+        rest = sym (drop-drop (before LineEnd (drop at chunk) + 1) at chunk ∙ ap (λ (x : ℕ). drop x chunk) n);
+        filled_fits = omega (arith, k-is, min-le_right (e - at) (length line - filled));
+        at_fits = omega arith;
+        moves = λ _. omega (arith, first.least);
       }
 
-  pub line_open : length chunk ≤ e → TakesLine most line chunk line' (record { taken = e; ended = false })
+  pub line_open : length chunk ≤ e → TakesLine line filled chunk at line' (record { at = e; filled = filled + k; ended = false })
   line_open h =
-      let l : length chunk ≤ before LineEnd chunk = omega (arith, b-is) in
-      let l2 : length chunk ≤ before LineEnd chunk + 1 = omega arith in
+      let lx : length (drop at chunk) ≡ length chunk - at = length-drop at chunk in
+      let l : length (drop at chunk) ≤ before LineEnd (drop at chunk) = omega (arith, b-is, first.least) in
+      let l2 : length (drop at chunk) ≤ before LineEnd (drop at chunk) + 1 = omega arith in
       record {
-        kept = kept_all;
-        ended_is = sym (ap not (le-leb (length chunk) (before LineEnd chunk) l));
-        rest = drop_of_length-le chunk h ∙ sym (drop_of_length-le chunk l2);
-        taken_fits = first.most;
+        kept = kept_line;
+        ended_is = sym (ap not (le-leb (length (drop at chunk)) (before LineEnd (drop at chunk)) l));
+        rest = drop_of_length-le chunk h ∙ sym (drop_of_length-le (drop at chunk) l2);
+        filled_fits = omega (arith, k-is, min-le_right (e - at) (length line - filled));
+        at_fits = first.most;
         moves = λ m. omega (arith, m);
       }

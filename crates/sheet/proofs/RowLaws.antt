@@ -1,22 +1,26 @@
 -- Laws of the lines that are written.
 -- Assumes nothing.
-use mathlib.Core.Path.{◌≡◌, refl, sym, ap, ◌∙◌, subst}
+use mathlib.Core.Path.{◌≡◌, refl, sym, ap, ap₂, ◌∙◌, subst}
 use Rattle.std.proofs.Common.{Some}
 use mathlib.Core.Bool.{Bool, true, false, cond}
-use mathlib.Core.List.{List, [], ◌∷◌, ◌++◌, append_assoc, append-nil}
+use mathlib.Core.List.{List, [], ◌∷◌, ◌++◌, append_assoc}
 use Prim.Native.Nat.{ℕ, zero, suc, ◌+◌, ◌-◌, ◌*◌, ◌/◌, ◌%◌, ◌^◌, ◌≤◌, ◌<◌}
-use native.Mathlib.Nat.{pow-suc, pow-le-pow_right}
+use native.Mathlib.Nat.{zero-add, pow-suc, pow-le-pow_right}
 use native.Mathlib.Numerals.{add-one}
 use native.Mathlib.Omega.{arith}
-use lib.ListN.{length, get_or, drop, length-append, drop_of_length-le}
+use lib.ListN.{length, set, get_or, drop, length-append, drop_of_length-le}
 use lib.Seq.{drop-cons}
 use lib.Dec.{ltb, leb}
 use borrow.Author.Tests.{lt-ltb, ltb-true, ltb-false, leb-true, leb-false}
 use Rattle.io.specs.Digits.{hex_digit_ascii, last_digits, IsDigitCount}
+use Rattle.octets.specs.Bytes.{splice, part}
 use Rattle.octets.proofs.BoolLaws.{and_both, and_left, and_right, is-between}
-use Rattle.lines.specs.Digits.{digit, is_digit, are_digits, worth, numeral}
+use Rattle.octets.proofs.PartLaws.{part-whole}
+use Rattle.octets.proofs.SpliceLaws.{splice-none, set-splice, splice-splice, splice_snoc}
+use Rattle.lines.specs.Digits.{Puts, digit, is_digit, are_digits, worth, numeral}
+use Rattle.lines.proofs.HexLaws.{puts_all}
 use Rattle.depot.specs.declared.Tally.{Tally}
-use Rattle.sheet.specs.Row.{places_in, places_of, decimal, field, fields, numbers_of, row}
+use Rattle.sheet.specs.Row.{places_in, places_of, decimal, field, fields, numbers_of, row, bad_row}
 
 -- ---- how many digits a number has
 
@@ -142,37 +146,99 @@ pub decimal-fewest : (n : ℕ) → n < 10 ^ 10 → IsDigitCount 10 1 n (length (
 unfolding decimal
 decimal-fewest n h = subst (IsDigitCount 10 1 n) (sym (length_digits (places_of n) n)) (fewest 9 n h)
 
+-- ---- the line of a file that is bad
+
+pub bad-written : (d d1 d2 name : List ℕ) (n : ℕ) → n ≡ length name → length name + 5 ≤ length d
+    → d1 ≡ splice d 0 (part name 0 n)
+    → d2 ≡ splice d1 n (part (32 ∷ 98 ∷ 97 ∷ 100 ∷ 10 ∷ []) 0 5)
+    → Puts (bad_row name) d d2 (n + 5)
+unfolding bad_row part
+bad-written d d1 d2 name n z h e1 e2 =
+    let bad : List ℕ = 32 ∷ 98 ∷ 97 ∷ 100 ∷ 10 ∷ [] in
+    let p : part name 0 n ≡ name = part-whole name n (sym z) in
+    let w : d2 ≡ splice d 0 (name ++ bad) =
+    e2 ∙ ap (λ (x : List ℕ). splice x n bad) (e1 ∙ ap (splice d 0) p) ∙ ap (λ (x : ℕ). splice (splice d 0 name) x bad) (sym (zero-add n)) ∙ splice-splice d 0 name bad n (sym z) (omega arith) in
+    puts_all (name ++ bad) d d2 (n + 5) (omega (arith, length-append name bad)) (omega arith) w
+
 -- ---- fields
 
 pub length-field : (n : ℕ) → length (field n) ≡ 1 + places_of n
 unfolding field decimal
 length-field n = omega (arith, length_digits (places_of n) n)
 
-pub field-is : (n k : ℕ) (text : List ℕ) → n < 10 ^ 10 → IsDigitCount 10 1 n k → text ≡ last_digits 10 k n → 32 ∷ text ≡ field n
+pub field-written : (d d2 text : List ℕ) (at n k : ℕ) → n < 10 ^ 10 → IsDigitCount 10 1 n k → text ≡ last_digits 10 k n → at + length (field n) ≤ length d
+    → d2 ≡ splice (set d at 32) (at + 1) (part text 0 k)
+    → (d2 ≡ splice d at (field n)) × (at + 1 + k ≡ at + length (field n))
 unfolding field decimal
-field-is n k text b w t = ap (λ (x : List ℕ). 32 ∷ x) (t ∙ ap (λ (x : ℕ). last_digits 10 x n) (places_are 9 n k b w))
-
--- a number of four bytes has ten digits at most
-pub few_digits : (n k : ℕ) → n < 10 ^ 10 → IsDigitCount 10 1 n k → k ≤ 10
-few_digits n k b w = omega (arith, places_are 9 n k b w, few_places 9 n)
+field-written d d2 text at n k b f t h w =
+    let e : k ≡ places_of n = places_are 9 n k b f in
+    let l : length (field n) ≡ 1 + places_of n = length-field n in
+    let m : at < length d = omega arith in
+    let v : List ℕ = last_digits 10 (places_of n) n in
+    let r : at + 1 + length v ≤ length d = omega (arith, length_digits (places_of n) n) in (
+      w
+          ∙ ap₂ (λ (x y : List ℕ). splice x (at + 1) y) (set-splice d at 32 m) (part-whole text k (ap length t ∙ length_digits k n) ∙ t ∙ ap (λ (x : ℕ). last_digits 10 x n) e)
+          ∙ splice-splice d at (32 ∷ []) v 1 refl r,
+      omega arith,
+    )
 
 fields_open : (ns : List ℕ) (i : ℕ) → i < length ns → fields (drop i ns) ≡ field (get_or ns i 0) ++ fields (drop (i + 1) ns)
 unfolding fields
 fields_open ns i h = rw (add-one, drop-cons ns i 0 h)
 
-pub fields_turn : (d ns all : List ℕ) (i : ℕ) → i < length ns → d ++ fields (drop i ns) ≡ all → (d ++ field (get_or ns i 0)) ++ fields (drop (i + 1) ns) ≡ all
-fields_turn d ns all i h e =
+pub fields_turn : (d d' ns : List ℕ) (end end' i : ℕ) → i < length ns → end + length (fields (drop i ns)) ≤ length d
+    → d' ≡ splice d end (field (get_or ns i 0)) → end' ≡ end + length (field (get_or ns i 0))
+    → (splice d end (fields (drop i ns)) ≡ splice d' end' (fields (drop (i + 1) ns))) × (end' + length (fields (drop (i + 1) ns)) ≡ end + length (fields (drop i ns)))
+fields_turn d d' ns end end' i h l e f =
     let x : List ℕ = field (get_or ns i 0) in
-    append_assoc d x (fields (drop (i + 1) ns)) ∙ ap (λ (y : List ℕ). d ++ y) (sym (fields_open ns i h)) ∙ e
+    let r : List ℕ = fields (drop (i + 1) ns) in
+    let o : fields (drop i ns) ≡ x ++ r = fields_open ns i h in
+    let k : length (fields (drop i ns)) ≡ length x + length r = ap length o ∙ length-append x r in (
+      ap (splice d end) o
+          ∙ sym (splice-splice d end x r (length x) refl (omega arith))
+          ∙ ap₂ (λ (y : List ℕ) (z : ℕ). splice y z r) (sym e) (sym f),
+      omega arith,
+    )
 
-pub field-few : (n : ℕ) → length (field n) ≤ 11
-field-few n = omega (arith, length-field n, few_places 9 n)
+pub fields-room : (ns : List ℕ) (i : ℕ) → i < length ns → length (field (get_or ns i 0)) ≤ length (fields (drop i ns))
+fields-room ns i h =
+    let k = ap length (fields_open ns i h) ∙ length-append (field (get_or ns i 0)) (fields (drop (i + 1) ns)) in
+    omega (arith, k)
 
--- the name, the fields and the line end
-pub row-is : (d d' name : List ℕ) (c : Tally) (i : ℕ) → 6 ≤ i → d ++ fields (drop i (numbers_of c)) ≡ name ++ fields (numbers_of c) → d' ≡ d ++ (10 ∷ []) → d' ≡ row name c
-unfolding row fields
-row-is d d' name c i h e f =
-    let ns : List ℕ = numbers_of c in
-    let z : drop i ns ≡ [] = drop_of_length-le ns h in
-    let g : d ≡ name ++ fields ns = sym (append-nil d) ∙ ap (λ (x : List ℕ). d ++ fields x) (sym z) ∙ e in
-    f ∙ ap (λ (x : List ℕ). x ++ (10 ∷ [])) g ∙ append_assoc name (fields ns) (10 ∷ [])
+pub fields-end : (d ns : List ℕ) (end i : ℕ) → length ns ≤ i → (splice d end (fields (drop i ns)) ≡ d) × (end + length (fields (drop i ns)) ≡ end)
+unfolding fields
+fields-end d ns end i h = rw (drop_of_length-le ns h) (splice-none d end, omega arith)
+
+-- ---- the line of a file
+
+pub fields-few : (ns : List ℕ) → length (fields ns) ≤ 11 * length ns
+unfolding fields
+fields-few [] = omega arith
+fields-few (n ∷ ns) = omega (arith, length-append (field n) (fields ns), length-field n, few_places 9 n, fields-few ns)
+
+pub row_written : (d d1 d2 d3 name ns : List ℕ) (c : Tally) (n end : ℕ) → ns ≡ numbers_of c → n ≡ length name → length name + 67 ≤ length d
+    → d1 ≡ splice d 0 (part name 0 n)
+    → d2 ≡ splice d1 n (fields ns)
+    → end ≡ n + length (fields ns)
+    → d3 ≡ set d2 end 10
+    → Puts (row name c) d d3 (end + 1)
+unfolding row
+row_written d d1 d2 d3 name ns c n end q z h e1 e2 f e3 =
+    let F : List ℕ = fields (numbers_of c) in
+    let few : length F ≤ 66 = fields-few (numbers_of c) in
+    let fl : length (fields ns) ≡ length F = ap (λ (x : List ℕ). length (fields x)) q in
+    let p : d1 ≡ splice d 0 name = e1 ∙ ap (splice d 0) (part-whole name n (sym z)) in
+    let w2 : d2 ≡ splice d 0 (name ++ F) =
+    e2 ∙ ap₂ (λ (x y : List ℕ). splice x n (fields y)) p q ∙ ap (λ (x : ℕ). splice (splice d 0 name) x F) (sym (zero-add n)) ∙ splice-splice d 0 name F n (sym z) (omega arith) in
+    let lv : length (name ++ F) ≡ end = length-append name F ∙ omega arith in
+    let w3 : d3 ≡ splice d 0 ((name ++ F) ++ (10 ∷ [])) =
+    e3 ∙ ap (λ (x : List ℕ). set x end 10) w2 ∙ ap (λ (x : ℕ). set (splice d 0 (name ++ F)) x 10) (sym (zero-add end)) ∙ splice_snoc d 0 (name ++ F) end 10 lv (omega arith) in
+    puts_all (name ++ (F ++ (10 ∷ []))) d d3 (end + 1) (omega (arith, length-append name (F ++ (10 ∷ [])), length-append F (10 ∷ []))) (omega arith) (w3 ∙ ap (splice d 0) (append_assoc name F (10 ∷ [])))
+
+-- ---- a text
+
+pub text-written : (d d' v : List ℕ) (n : ℕ) → n ≡ length v → length v ≤ length d → d' ≡ splice d 0 (part v 0 n) → Puts v d d' n
+text-written d d' v n e h w = puts_all v d d' n e (omega arith) (w ∙ ap (splice d 0) (part-whole v n (sym e)))
+
+pub none_written : (d : List ℕ) → Puts [] d d 0
+none_written d = puts_all [] d d 0 refl (omega arith) (sym (splice-none d 0))

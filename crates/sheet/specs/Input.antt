@@ -49,13 +49,14 @@ has_end s = not (leb (length s) (before LineEnd s))
 abbrev pub behind_end : List ℕ → List ℕ
 behind_end s = drop (before LineEnd s + 1) s
 
--- what `take_line` promises: `line` is held of a line; the chunk's bytes up to a line end follow, as many as there is room for with `most` in all
-pub record TakesLine (most : ℕ) (line chunk line' : List ℕ) (r : Cut) : Type 0 where
-  pub kept : line' ≡ take most (line ++ up_to_end chunk)
-  pub ended_is : r.ended ≡ has_end chunk
-  pub rest : drop r.taken chunk ≡ behind_end chunk
-  pub taken_fits : r.taken ≤ length chunk
-  pub moves : 0 < length chunk → 0 < r.taken
+-- what `take_line` promises: `line` holds so many bytes of a line; the chunk's bytes from `at` up to a line end follow, as many as there is room for
+pub record TakesLine (line : List ℕ) (filled : ℕ) (chunk : List ℕ) (at : ℕ) (line' : List ℕ) (r : Cut) : Type 0 where
+  pub kept : take r.filled line' ≡ take (length line) (take filled line ++ up_to_end (drop at chunk))
+  pub ended_is : r.ended ≡ has_end (drop at chunk)
+  pub rest : drop r.at chunk ≡ behind_end (drop at chunk)
+  pub filled_fits : r.filled ≤ length line
+  pub at_fits : r.at ≤ length chunk
+  pub moves : at < length chunk → at < r.at
 
 -- the lines that ended, and what is held of the one that has not
 pub record Fed : Type 0 where

@@ -1,6 +1,7 @@
 -- The report (change request 14): what is written of each line of the input, and at its end.
 -- Assumes nothing.
 use Rattle.std.specs.Prelude.{Bool, false, cond, Option, Some, None, List, [], ◌∷◌, ◌++◌, ℕ, ◌≤◌, ◌≡◌, length}
+use Rattle.lines.specs.Digits.{Puts}
 use Rattle.depot.specs.Counts.{counts_of, sum_of}
 use Rattle.depot.specs.declared.Tally.{Tally}
 use Rattle.sheet.specs.declared.Report.{Report}
@@ -81,7 +82,7 @@ asks_file Over line = false
 abbrev pub ShortName : List ℕ → Type 0
 ShortName name = length name ≤ 255
 
--- a line of the report is what is written
-pub record PutsLine (l : Line) (w : Written) : Type 0 where
-  pub text : w.text.items ≡ l.text
+-- a line of the report is at the front of `out`
+pub record PutsLine (l : Line) (out out' : List ℕ) (w : Written) : Type 0 where
+  pub text : Puts l.text out out' w.count
   pub report : w.report ≡ l.report

@@ -1,15 +1,15 @@
 // The input of the report: lines cut out of a stream, the moment, and names of files.
-ghost use Rattle.std.specs.Prelude.{◌≡◌};
+ghost use Rattle.std.specs.Prelude.{◌≡◌, ◌≤◌, length};
 ghost use Rattle.sheet.specs.Input.{moment_of, is_name, TakesLine};
 
-use arrayvec::ArrayVec;
 use lines::digits::{are_digits, number};
 use lines::words::{Class, first};
 
-// How many bytes of a chunk are taken, and whether the line has ended. No Option: the definition TakesLine names both, and the caller goes on behind what is taken in either case.
+// Where a chunk is read on, how much of the line is held, and whether the line has ended. No Option: the definition TakesLine names all three, and the caller goes on from there in either case.
 #[derive(Clone, Copy)]
 pub struct Cut {
-    pub taken: usize,
+    pub at: usize,
+    pub filled: usize,
     pub ended: bool,
 }
 
@@ -41,21 +41,24 @@ pub fn is_name(line: &[u8]) -> bool
     !line.contains(&0)
 }
 
-// Takes the bytes of a chunk up to a line end, or all of them, to the end of the line that is held; what has no room is left out.
-pub fn take_line<const N: usize>(line: &mut ArrayVec<u8, N>, chunk: &[u8]) -> Cut
-    ensures { TakesLine N line.old.items chunk.now line.new.items result }
+// Takes the bytes of a chunk from index at up to a line end, or all of them, to the end of the line that is held; what has no room is left out.
+pub fn take_line(line: &mut [u8], filled: usize, chunk: &[u8], at: usize) -> Cut
+    requires { (filled ≤ length line.old) × (at ≤ length chunk.now) }
+    ensures { TakesLine line.old filled chunk.now at line.new result }
 {
-    let end = first(Class::LineEnd, chunk, 0);
-    let k = end.min(line.remaining_capacity());
-    line.try_extend_from_slice(&chunk[..k]).unwrap();
+    let end = first(Class::LineEnd, chunk, at);
+    let k = (end - at).min(line.len() - filled);
+    octets::copy(line, filled, chunk, at, k);
     if end < chunk.len() {
         return Cut {
-            taken: end + 1,
+            at: end + 1,
+            filled: filled + k,
             ended: true,
         };
     }
     Cut {
-        taken: end,
+        at: end,
+        filled: filled + k,
         ended: false,
     }
 }
