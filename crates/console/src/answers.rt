@@ -1,7 +1,7 @@
 // What the console answers, a line each.
 ghost use Rattle.std.specs.Prelude.{◌≡◌, take};
 
-use crate::text::{line, named, text};
+use crate::text::{Word, line, named, text};
 use message::written::HEAD;
 use refusal::Refusal;
 use session::Session;
@@ -11,29 +11,30 @@ const RESPONSE_AT: usize = 20;
 
 // ---- refusals
 
+// With the blank before it, as one piece.
 fn reason(h: Refusal) -> &'static str {
     match h {
-        Refusal::StoreLength => "store has the length of no edition",
-        Refusal::OutputLength => "output under 1032 bytes",
-        Refusal::SessionClosed => "session is closed",
-        Refusal::MessageShort => "message shorter than a header",
-        Refusal::NoSessionInit => "no valid session init",
-        Refusal::SameIdentity => "own identity is the peer's",
-        Refusal::UnitLength => "unit is not 9 to 1032 bytes",
-        Refusal::MacDiffers => "MAC differs",
-        Refusal::UnitContents => "no user data, or ETY, MTI or direction wrong",
-        Refusal::DataLength => "user data not 1 to 1023 bytes",
-        Refusal::NoKey => "no key fits",
-        Refusal::StoreUnsound => "store is unsound",
-        Refusal::KeyLength => "key is not 24 bytes",
-        Refusal::NoRoom => "more than 64 keys or 256 peers held",
+        Refusal::StoreLength => " store has the length of no edition",
+        Refusal::OutputLength => " output under 1032 bytes",
+        Refusal::SessionClosed => " session is closed",
+        Refusal::MessageShort => " message shorter than a header",
+        Refusal::NoSessionInit => " no valid session init",
+        Refusal::SameIdentity => " own identity is the peer's",
+        Refusal::UnitLength => " unit is not 9 to 1032 bytes",
+        Refusal::MacDiffers => " MAC differs",
+        Refusal::UnitContents => " no user data, or ETY, MTI or direction wrong",
+        Refusal::DataLength => " user data not 1 to 1023 bytes",
+        Refusal::NoKey => " no key fits",
+        Refusal::StoreUnsound => " store is unsound",
+        Refusal::KeyLength => " key is not 24 bytes",
+        Refusal::NoRoom => " more than 64 keys or 256 peers held",
     }
 }
 
 pub fn refused(h: Refusal) {
     let number = u8::from(h);
     let reason = reason(h);
-    line(format_args!("refused H{number} {reason}"));
+    line(format_args!("refused H{number}{reason}"));
 }
 
 // ---- replies and units
@@ -88,16 +89,17 @@ pub fn reply(s: &[u8]) {
 }
 
 pub fn place(n: usize, until: u32) {
-    line(format_args!("place {n} until {until:08x}"));
+    let until = Word(until);
+    line(format_args!("place {n} until {until}"));
 }
 
 // ---- sessions
 
 fn state(code: u8) -> &'static str {
     match code {
-        Session::WAITING => "waiting",
-        Session::OPEN => "open",
-        _ => "closed",
+        Session::WAITING => "session waiting",
+        Session::OPEN => "session open",
+        _ => "session closed",
     }
 }
 
@@ -111,7 +113,7 @@ pub fn shown(session: Session) {
         ..
     } = session;
     let state = state(session.state);
-    text(format_args!("session {state}, own {own:08x}, peer {peer:08x}"));
+    text(format_args!("{state}, own {}, peer {}", Word(own), Word(peer)));
     text(format_args!(", next {next}, expected {expected}, last transaction "));
     if session.remembered {
         line(transaction);

@@ -1,6 +1,6 @@
 // What a connection is told to do, a line each: to the user, to the transport, the timer, and the state.
 use crate::answers::{front, refused};
-use crate::text::{line, named};
+use crate::text::{Word, line, named};
 use table::{Actions, Connection, Step, Timer, ToTransport, ToUser};
 
 // The user data of a unit stand behind its first byte.
@@ -14,7 +14,7 @@ fn user_data(unit: &[u8], n: usize) -> &[u8] {
 fn to_user(user: ToUser, peer: u32, unit: &[u8]) {
     match user {
         ToUser::Nothing => {}
-        ToUser::ConnectIndication => line(format_args!("Sa-CONN.ind from {peer:08x}")),
+        ToUser::ConnectIndication => line(format_args!("Sa-CONN.ind from {}", Word(peer))),
         ToUser::ConnectConfirmation => line("Sa-CONN.conf"),
         ToUser::DataIndication(n) => named("Sa-DATA.ind ", user_data(unit, n)),
         ToUser::DisconnectIndication(why) => {
@@ -65,15 +65,14 @@ fn acted(actions: Actions, peer: u32, unit: &[u8], out: &[u8]) {
 }
 
 pub fn state(code: u8) {
-    let name = match code {
-        Connection::WFTC => "WFTC",
-        Connection::WFAR => "WFAR",
-        Connection::DATA => "DATA",
-        Connection::WFAU3 => "WFAU3",
-        Connection::WFRESP => "WFRESP",
-        _ => "IDLE",
-    };
-    line(format_args!("state {name}"));
+    line(match code {
+        Connection::WFTC => "state WFTC",
+        Connection::WFAR => "state WFAR",
+        Connection::DATA => "state DATA",
+        Connection::WFAU3 => "state WFAU3",
+        Connection::WFRESP => "state WFRESP",
+        _ => "state IDLE",
+    });
 }
 
 pub fn told(step: Step, unit: &[u8], out: &[u8]) {

@@ -1,5 +1,5 @@
 // What is said of a line that is not read, and help.
-use crate::text::{LINE, line};
+use crate::text::line;
 use lines::connections::Verb;
 use lines::fields::Fault;
 use lines::orders::{COMMANDS, Command};
@@ -53,12 +53,18 @@ pub fn bad(n: u64, fault: Fault, command: Command) {
     line(format_args!("line {n}: {fault}: expected {usage}"));
 }
 
-pub fn unknown(n: u64) {
-    line(format_args!("line {n}: no such command: help lists them"));
+// What is said is one piece, and so one write.
+fn at_line(n: u64, what: &str) {
+    line(format_args!("line {n}: {what}"));
 }
 
+pub fn unknown(n: u64) {
+    at_line(n, "no such command: help lists them");
+}
+
+// The number is LINE, written out so that the text is one piece.
 pub fn too_long(n: u64) {
-    line(format_args!("line {n}: line too long: expected at most {LINE} characters"));
+    at_line(n, "line too long: expected at most 76100 characters");
 }
 
 pub fn help() {

@@ -3,7 +3,7 @@ ghost use Rattle.std.specs.Prelude.{◌≡◌, ◌+◌, ◌*◌, ◌<◌, ◌≤
 ghost use Rattle.octets.specs.Bytes.{get16};
 ghost use Rattle.runs.specs.Alike.{is_sound};
 
-use crate::text::{line, text};
+use crate::text::{Word, line, text};
 use records::{Record, is_held, peer_at, record_at};
 use store::editions::LENGTH_2;
 use store::field::number_at;
@@ -16,16 +16,20 @@ fn record(place: usize, r: Record) {
         end,
         ..
     } = r;
-    text(format_args!("place {place}: issuer {issuer:08x} serial {serial:08x}"));
-    text(format_args!(" start {start:08x} end {end:08x} peers"));
+    text(format_args!(
+        "place {place}: issuer {} serial {}",
+        Word(issuer),
+        Word(serial)
+    ));
+    text(format_args!(" start {} end {} peers", Word(start), Word(end)));
 }
 
 fn peers(s: &[u8], first: usize, count: usize)
     requires { (first + count < 65536) × (12 ≤ length s.now) × (get16 s.now 8 + 4 * (first + count) ≤ length s.now) }
 {
     for j in first..first + count {
-        let peer = peer_at(s, j);
-        text(format_args!(" {peer:08x}"));
+        let peer = Word(peer_at(s, j));
+        text(format_args!(" {peer}"));
     }
     line("");
 }

@@ -69,8 +69,8 @@ pub fn empty(large: bool, store: &mut [u8; LENGTH_2])
 
 // What was done to the store, and the edition that is held.
 fn said(done: &str, large: bool) {
-    let edition = if large { 2 } else { 1 };
-    line(format_args!("{done}, edition {edition}"));
+    let edition = if large { ", edition 2" } else { ", edition 1" };
+    line(format_args!("{done}{edition}"));
 }
 
 // Makes the empty store of the edition that is chosen.
