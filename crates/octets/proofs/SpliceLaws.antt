@@ -6,14 +6,14 @@ use Prim.Native.Nat.{ℕ, ◌+◌, ◌-◌, ◌≤◌, ◌<◌}
 use native.Mathlib.Nat.{add-zero, zero-add, add_assoc}
 use native.Mathlib.Numerals.{add-one}
 use native.Mathlib.Omega.{arith}
-use lib.ListN.{length, set, take, drop, replicate, length-append, length-drop, take-append-drop, length-replicate, drop_of_length-le}
-use lib.Seq.{set_split, take_at, drop_at, drop-drop, length-take-le}
+use lib.ListN.{length, get_or, set, take, drop, replicate, length-append, length-drop, take-append-drop, length-replicate, drop_of_length-le}
+use lib.Seq.{get_or-drop, set_split, take_at, drop_at, drop-drop, length-take-le}
 use borrow.Rule.Slice.PartMut.{put_mid}
 use Rattle.std.specs.List.{copy_within}
 use Rattle.std.proofs.lemmas.List.Edits.{paste_all}
 use Rattle.std.proofs.lemmas.Slice.{put_mid-paste}
 use Rattle.octets.specs.Bytes.{part, splice, closed}
-use Rattle.octets.proofs.PartLaws.{part-add, part_length, part_mid}
+use Rattle.octets.proofs.PartLaws.{part_snoc, part-add, part_length, part_mid}
 
 pub splice-none : (d : List ℕ) (i : ℕ) → splice d i [] ≡ d
 unfolding splice
@@ -44,6 +44,11 @@ unfolding splice
 splice-take d i v k e h =
     ap (λ (l : List ℕ). take (i + k) l) (sym (append_assoc (take i d) v (drop (i + length v) d)))
     ∙ take_at (take i d ++ v) (drop (i + length v) d) (i + k) (front d i v h ∙ ap (λ (x : ℕ). i + x) e)
+
+-- what stands past the splice is as it was
+pub splice-past : (d : List ℕ) (i : ℕ) (v : List ℕ) (k j : ℕ) → length v ≡ k → i ≤ length d → get_or (splice d i v) (i + k + j) 0 ≡ get_or d (i + k + j) 0
+splice-past d i v k j e h =
+    sym (get_or-drop (i + k) (splice d i v) j 0) ∙ ap (λ (l : List ℕ). get_or l j 0) (splice-drop d i v k e h) ∙ get_or-drop (i + k) d j 0
 
 -- two splices, one behind the other
 pub splice-splice : (d : List ℕ) (i : ℕ) (v w : List ℕ) (k : ℕ) → length v ≡ k → i + k + length w ≤ length d
@@ -143,6 +148,22 @@ copy_within-splice d at j i n e h =
     let k : j - at ≡ n = omega arith in
     let l : length (take n (drop at d)) ≡ n = part_length d at n h in
     rw (k, l) (append_assoc (take i d) (take n (drop at d)) (drop (i + n) d))
+
+pub copy_turn : (d : List ℕ) (i : ℕ) (src : List ℕ) (at k : ℕ) (s : List ℕ) → i + k < length d → at + k < length src → s ≡ splice d i (part src at k)
+    → set s (i + k) (get_or src (at + k) 0) ≡ splice d i (part src at (k + 1))
+copy_turn d i src at k s h l e =
+    splice_turn d i k (get_or src (at + k) 0) s (part src at k) _ h (part_length src at k (omega arith)) e (sym (part_snoc src at k l))
+
+-- bytes moved down are read past what is written
+pub move_turn : (d : List ℕ) (i gap k : ℕ) (s : List ℕ) → i + gap + k < length d → s ≡ splice d i (part d (i + gap) k)
+    → set s (i + k) (get_or s (i + gap + k) 0) ≡ splice d i (part d (i + gap) (k + 1))
+move_turn d i gap k s h e =
+    let lv : length (part d (i + gap) k) ≡ k = part_length d (i + gap) k (omega arith) in
+    let j : i + gap + k ≡ i + k + gap = omega arith in
+    let r : get_or s (i + gap + k) 0 ≡ get_or d (i + gap + k) 0 =
+    ap (λ (x : List ℕ). get_or x (i + gap + k) 0) e ∙ ap (λ (x : ℕ). get_or (splice d i (part d (i + gap) k)) x 0) j ∙ splice-past d i (part d (i + gap) k) k gap lv (omega arith)
+    ∙ ap (λ (x : ℕ). get_or d x 0) (sym j) in
+    ap (λ (x : ℕ). set s (i + k) x) r ∙ copy_turn d i d (i + gap) k s (omega arith) h e
 
 pub closed_is : (d : List ℕ) (i gap n : ℕ) (s t : List ℕ) → i + gap + n ≤ length d → s ≡ splice d i (part d (i + gap) n) → t ≡ splice s (i + n) (replicate gap 0)
     → t ≡ closed d i gap n
