@@ -3,16 +3,19 @@ ghost use Rattle.std.specs.Prelude.{◌≡◌, true, ◌<◌, ◌≤◌, ◌/◌
 ghost use Rattle.octets.specs.Bytes.{splice};
 ghost use Rattle.lines.specs.Digits.{digit as digitOf, is_digit as isDigit, worth as worthOf, are_digits, glyph as glyphOf, from_hex, bytes_of, to_hex, Numbers, Puts};
 
-// The value of a digit.
+// The value of a digit. Two comparisons for a range, which become one: of a match over ranges the compiler makes a chain of them.
 #[tactic(auto, unfolding(crate::specs::Digits::digit))]
 fn digit(b: u8) -> Option<u8>
     ensures { result ≡ digitOf b }
 {
-    match b {
-        b'0'..=b'9' => Some(b - b'0'),
-        b'A'..=b'F' => Some(b - b'A' + 10),
-        b'a'..=b'f' => Some(b - b'a' + 10),
-        _ => None,
+    if b >= b'0' && b <= b'9' {
+        Some(b - b'0')
+    } else if b >= b'A' && b <= b'F' {
+        Some(b - b'A' + 10)
+    } else if b >= b'a' && b <= b'f' {
+        Some(b - b'a' + 10)
+    } else {
+        None
     }
 }
 
